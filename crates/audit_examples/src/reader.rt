@@ -6,7 +6,7 @@ ghost use Rattle.audit_streams.specs.Words.{IsWord, IsOfWatts};
 ghost use Rattle.audit_examples.specs.Reader as small;
 
 use arrayvec::ArrayVec;
-use audit_streams::{ToldReader, ToldWord};
+use audit_streams::{ToldReader, ToldWatts, ToldWord};
 use audit_watts::WattValues;
 use charge_world::Dialect;
 use faultless_pasts::ToldCoded;
@@ -165,7 +165,7 @@ impl ToldReader for SmallReader {
     fn watts(
         &mut self,
         plan: &PostPlan,
-        told: u32,
+        told: ToldWatts,
         dialect: Dialect,
         payload: &[u8],
     ) -> Option<WattValues> {

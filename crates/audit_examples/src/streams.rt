@@ -3,7 +3,7 @@
 use crate::SmallReader;
 use arrayvec::ArrayVec;
 use audit_readings::{ToldSaid, said};
-use audit_streams::{NoMemory, ToldStream, ToldWord};
+use audit_streams::{NoMemory, ToldStream, ToldWatts, ToldWord};
 use charge_world::{Dialect, Order, What};
 use session_words::PostPlan;
 use std::alloc::Global;
@@ -62,7 +62,11 @@ fn what_is_said(stream: &ToldStream, reader: &mut SmallReader, bytes: &[u8]) -> 
         nominal: 230,
         ..PostPlan::default()
     };
-    match said(stream, reader, &plan, 1000, bytes) {
+    let told = ToldWatts {
+        watts: 1000,
+        dialect: Dialect::Iso,
+    };
+    match said(stream, reader, &plan, told, bytes) {
         ToldSaid::Response { positive, .. } => Shown::Response(positive),
         ToldSaid::Replied(_) => Shown::Replied,
         ToldSaid::Other => Shown::Other,

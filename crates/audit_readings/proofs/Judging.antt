@@ -9,7 +9,7 @@ use Rattle.post_spec.specs.Kinds.{asks_start}
 use Rattle.post_spec.specs.Sessions.{waits}
 use Rattle.post_spec.specs.Steps.{Act, Seen}
 use Rattle.post_spec.specs.Words.{HeardWord, Payload, Fault}
-use Rattle.told_pasts.specs.Reading.{IsUnanswered, IsNext, IsJudged, ActJudges}
+use Rattle.told_pasts.specs.Reading.{IsUnanswered, ActJudges}
 use Rattle.told_pasts.specs.Spelling.{ToldCodecs}
 use Rattle.told_pasts.specs.Steps.{ToldStep, seen_in}
 use Rattle.told_pasts.specs.Talk.{is_judged}
@@ -18,7 +18,7 @@ use Rattle.audit_streams.specs.declared.reader.ToldWord.{ToldWord}
 use Rattle.audit_streams.specs.declared.reader.ToldWord.TheVariants as told
 use Rattle.audit_streams.specs.declared.streams.NextWord.{NextWord}
 use Rattle.audit_streams.specs.declared.streams.NextWord.TheVariants.{Nothing, Kept, BadFrame, OtherPayload}
-use Rattle.audit_streams.specs.Streams.{IsTold, TellsFirst, IsNextSo, IsKeptNext, TellsNext}
+use Rattle.audit_streams.specs.Streams.{IsTold, TellsFirst, IsKeptNext, TellsNext}
 use Rattle.audit_streams.specs.Words.{IsWord}
 use Rattle.audit_readings.specs.Readings.{payload_in, is_kept, is_there, IsFreeWord, IsFree, JudgesWord, JudgesSo, is_start, HasNext}
 

@@ -1,11 +1,10 @@
 -- A stream has one list of words, and so it can be told whether PowerDelivery Start is the first without a reply.
-use Rattle.std.proofs.Common.{◌≡◌, ℕ, ◌∙◌, sym, ap, subst, refl, drop, Bool, true, false, List, [], ◌∷◌, ◌++◌, length, Option, Some, None, Result, Ok, Err, inl, inr, ◌⊎◌}
+use Rattle.std.proofs.Common.{◌≡◌, ℕ, ◌∙◌, sym, ap, subst, refl, drop, Bool, true, false, List, [], ◌∷◌, ◌++◌, length, Option, Some, None, Result, Err, inl, inr, ◌⊎◌}
 use Rattle.charge_world.specs.declared.offer.Dialect.{Dialect}
 use Rattle.session_words.specs.declared.plan.PostPlan.{PostPlan}
 use Rattle.session_words.specs.declared.plan.SitePlan.{SitePlan}
 use Rattle.session_words.specs.declared.word.Request.{Request}
 use Rattle.v2gtp_frames.specs.declared.FrameFault.{FrameFault}
-use Rattle.v2gtp_frames.specs.Frames.{Frames}
 use Rattle.v2gtp_frames.specs.Reading.{whole_at, behind_frames}
 use Rattle.v2gtp_frames.proofs.Ends.{is_fault}
 use Rattle.v2gtp_frames.proofs.Same.{one_reading, last_rest}
@@ -15,7 +14,6 @@ use Rattle.post_spec.specs.Sessions.{session, stream, replies}
 use Rattle.post_spec.specs.Spelled.{AreDetermined}
 use Rattle.post_spec.specs.Steps.{Seen}
 use Rattle.post_spec.specs.Words.{HeardWord, Payload, Fault, AreRead, AreJudged, EndsSo, Words, chosen_by}
-use Rattle.told_pasts.specs.Reading.{IsUnanswered}
 use Rattle.told_pasts.specs.Spelling.{ToldCodecs}
 use Rattle.told_pasts.specs.Steps.{ToldStep, seen_in}
 use Rattle.audit_mandates.specs.Laws.{TellsStarts}

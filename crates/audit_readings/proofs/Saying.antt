@@ -1,14 +1,12 @@
 -- What bytes say to the first word without a reply.
-use Rattle.std.proofs.Common.{◌≡◌, ◌≤◌, ◌<◌, ℕ, ◌+◌, ◌==◌, ◌∙◌, sym, ap, subst, refl, take, drop, Bool, true, false, List, [], ◌∷◌, ◌++◌, length, Option, Some, None, Result, Ok, Err, MatchBool, inl, inr, ◌⊎◌, arith}
-use Rattle.std.specs.Prelude.{All, ◌↔◌}
+use Rattle.std.proofs.Common.{◌≡◌, ◌<◌, ℕ, ◌+◌, ◌∙◌, sym, ap, subst, refl, drop, Bool, true, false, List, [], ◌++◌, length, Option, Some, None, Result, Ok, Err, MatchBool, inl, inr, ◌⊎◌, arith}
+use Rattle.std.specs.Prelude.{All}
 use Rattle.std.proofs.lemmas.Bool.{eqb-true, eqb-false}
 use Rattle.std.proofs.lemmas.List.{append-nil, drop_all, take_all, length-drop}
 use Rattle.charge_world.specs.declared.offer.Dialect.{Dialect}
 use Rattle.session_words.specs.declared.plan.PostPlan.{PostPlan}
-use Rattle.session_words.specs.declared.word.Ask.{Ask}
 use Rattle.session_words.specs.declared.word.Reply.{Reply}
 use Rattle.session_words.specs.declared.word.Request.{Request}
-use Rattle.session_words.specs.declared.word.Word.{Word}
 use Rattle.session_words.specs.declared.word.Word.TheVariants as word
 use Rattle.v2gtp_frames.specs.declared.FrameFault.{FrameFault}
 use Rattle.v2gtp_frames.specs.Frames.{frame, IsPayload}
@@ -23,6 +21,7 @@ use Rattle.post_spec.specs.Words.{HeardWord, Payload, Fault}
 use Rattle.told_pasts.specs.Reading.{IsUnanswered, Says, IsResponse as ResponseIs, IsReply as ReplyIs, IsSaid, spoken_in}
 use Rattle.told_pasts.specs.Spelling.{SpelledWatts, ToldCodecs}
 use Rattle.told_pasts.specs.Steps as steps
+use Rattle.audit_streams.specs.declared.reader.ToldWatts.{ToldWatts}
 use Rattle.audit_streams.specs.declared.reader.ToldWord.{ToldWord}
 use Rattle.audit_streams.specs.declared.reader.ToldWord.TheVariants as told
 use Rattle.audit_streams.specs.Streams.{IsAsked, IsTold, TellsFirst, TellsSpoken}
@@ -30,7 +29,7 @@ use Rattle.audit_streams.specs.Words.{SpeaksOnce}
 use Rattle.audit_readings.specs.declared.replies.ToldReply.{ToldReply}
 use Rattle.audit_readings.specs.declared.replies.ToldSaid.{ToldSaid}
 use Rattle.audit_readings.specs.declared.replies.ToldSaid.TheVariants.{Response, Replied, Other, Unasked}
-use Rattle.audit_readings.specs.Saying.{IsFrame, IsNoFrame, fills, IsResponse, ResponseSo, IsReply, PayloadSo, ReplySo, said_by, ResponseTo, ReplyTo, SaysTo, IsToldReply, IsSame, SaidSo}
+use Rattle.audit_readings.specs.Saying.{IsFrame, IsNoFrame, fills, IsResponse, IsReply, ResponseTo, ReplyTo, SaysTo, IsSame, SaidSo}
 
 pub frame_payload : (bytes payload : List ℕ) → bytes ≡ frame payload → drop 8 bytes ≡ payload
 frame_payload bytes payload e = ap (λ (s : List ℕ). drop 8 s) e
@@ -129,7 +128,7 @@ none_asked c plan past bytes (steps.Replied request reply spelled) none is = abs
 none_asked c plan past bytes steps.Other none is = absurd (none is.0)
 none_asked c plan past bytes steps.Unasked none is = refl
 
-unasked_so : (c : ToldCodecs) (plan : PostPlan) (watts : ℕ) (past : List Seen) (bytes : List ℕ) (kept : Option ToldWord) (found : ToldSaid) → (IsAsked c.words plan.dialects.items past → ⊥) → found ≡ Unasked → SaidSo c plan watts past bytes kept found
+unasked_so : (c : ToldCodecs) (plan : PostPlan) (watts : ToldWatts) (past : List Seen) (bytes : List ℕ) (kept : Option ToldWord) (found : ToldSaid) → (IsAsked c.words plan.dialects.items past → ⊥) → found ≡ Unasked → SaidSo c plan watts past bytes kept found
 unasked_so c plan watts past bytes kept found none e = record {
   said = steps.Unasked;
   same = subst (λ (x : ToldSaid). IsSame plan watts kept x steps.Unasked) (sym e) refl;
@@ -144,7 +143,7 @@ other_only c plan past bytes kept (steps.Replied request reply spelled) t none i
 other_only c plan past bytes kept steps.Other t none is = refl
 other_only c plan past bytes kept steps.Unasked t none is = absurd (is t.words t.word t.is)
 
-other_so : (c : ToldCodecs) (plan : PostPlan) (watts : ℕ) (past : List Seen) (bytes : List ℕ) (kept : ToldWord) (o : Option ToldWord) (found : ToldSaid) → IsTold c.words plan.dialects.items past kept → ((said : steps.Said) → Says c plan past bytes said → ⊥) → found ≡ Other → SaidSo c plan watts past bytes o found
+other_so : (c : ToldCodecs) (plan : PostPlan) (watts : ToldWatts) (past : List Seen) (bytes : List ℕ) (kept : ToldWord) (o : Option ToldWord) (found : ToldSaid) → IsTold c.words plan.dialects.items past kept → ((said : steps.Said) → Says c plan past bytes said → ⊥) → found ≡ Other → SaidSo c plan watts past bytes o found
 other_so c plan watts past bytes kept o found t none e = record {
   said = steps.Other;
   same = subst (λ (x : ToldSaid). IsSame plan watts o x steps.Other) (sym e) refl;
@@ -192,7 +191,7 @@ negotiated_only c plan past bytes chosen positive (steps.Replied request reply s
 negotiated_only c plan past bytes chosen positive steps.Other t r own is = absurd (is.1 (steps.Response chosen positive) own)
 negotiated_only c plan past bytes chosen positive steps.Unasked t r own is = absurd (is t.words t.word t.is)
 
-negotiated_so : (c : ToldCodecs) (plan : PostPlan) (watts : ℕ) (past : List Seen) (bytes : List ℕ) (chosen : Option Dialect) (found : ToldSaid) → IsTold c.words plan.dialects.items past (told.Negotiated chosen) → ResponseTo c chosen bytes found → SaidSo c plan watts past bytes (Some (told.Negotiated chosen)) found
+negotiated_so : (c : ToldCodecs) (plan : PostPlan) (watts : ToldWatts) (past : List Seen) (bytes : List ℕ) (chosen : Option Dialect) (found : ToldSaid) → IsTold c.words plan.dialects.items past (told.Negotiated chosen) → ResponseTo c chosen bytes found → SaidSo c plan watts past bytes (Some (told.Negotiated chosen)) found
 negotiated_so c plan watts past bytes chosen (Response own positive) t (e, r) =
     let u = subst (IsUnanswered c.words plan.dialects.items past t.words) t.kept_is.1 t.is in
     let says : Says c plan past bytes (steps.Response chosen positive) = ResponseIs t.words chosen t.kept_is.0 (drop 8 bytes) positive u r.frame.whole r.responds in
@@ -224,7 +223,7 @@ asked_says c plan past bytes request t said s = elim (says_so c plan past bytes 
   | inr r ↦ (r, asked_same r.request request (t.only r.words (Payload (Asked r.request)) r.is ∙ t.kept_is))
 ]
 
-says_one : (c : ToldCodecs) (plan : PostPlan) (watts : ℕ) (past : List Seen) (bytes : List ℕ) (request : Request) (d : Dialect) (r : ToldReply) (other : steps.Said) → AreDetermined c.words → SpeaksOnce c.Watts → (t : IsTold c.words plan.dialects.items past (told.Asked request)) → TellsSpoken c.words plan.dialects.items past (Some d)
+says_one : (c : ToldCodecs) (plan : PostPlan) (watts : ToldWatts) (past : List Seen) (bytes : List ℕ) (request : Request) (d : Dialect) (r : ToldReply) (other : steps.Said) → AreDetermined c.words → SpeaksOnce c.Watts → (t : IsTold c.words plan.dialects.items past (told.Asked request)) → TellsSpoken c.words plan.dialects.items past (Some d)
     → (i : IsReply c plan watts d request.ask (drop 8 bytes) r) → Says c plan past bytes other → other ≡ steps.Replied request r.reply i.spelled
 says_one c plan watts past bytes request d r other det once t sp i s =
     let v = asked_says c plan past bytes request t other s in
@@ -236,14 +235,14 @@ says_one c plan watts past bytes request d r other det once t sp i s =
     same_reply x.request request x.reply r.reply x.spelled i.spelled other x.said_is v.1
     (reply_same x.reply r.reply (det.reads d (drop 8 bytes) (Some (word.Reply x.reply)) (Some (word.Reply r.reply)) reads i.reads)) (once d (drop 8 bytes) x.spelled i.spelled spells i.spells)
 
-asked_only : (c : ToldCodecs) (plan : PostPlan) (watts : ℕ) (past : List Seen) (bytes : List ℕ) (request : Request) (d : Dialect) (r : ToldReply) (other : steps.Said) → AreDetermined c.words → SpeaksOnce c.Watts → (t : IsTold c.words plan.dialects.items past (told.Asked request)) → TellsSpoken c.words plan.dialects.items past (Some d)
+asked_only : (c : ToldCodecs) (plan : PostPlan) (watts : ToldWatts) (past : List Seen) (bytes : List ℕ) (request : Request) (d : Dialect) (r : ToldReply) (other : steps.Said) → AreDetermined c.words → SpeaksOnce c.Watts → (t : IsTold c.words plan.dialects.items past (told.Asked request)) → TellsSpoken c.words plan.dialects.items past (Some d)
     → (i : IsReply c plan watts d request.ask (drop 8 bytes) r) → Says c plan past bytes (steps.Replied request r.reply i.spelled) → IsSaid c plan past bytes other → other ≡ steps.Replied request r.reply i.spelled
 asked_only c plan watts past bytes request d r (steps.Response a p) det once t sp i own is = says_one c plan watts past bytes request d r (steps.Response a p) det once t sp i is
 asked_only c plan watts past bytes request d r (steps.Replied a x v) det once t sp i own is = says_one c plan watts past bytes request d r (steps.Replied a x v) det once t sp i is
 asked_only c plan watts past bytes request d r steps.Other det once t sp i own is = absurd (is.1 (steps.Replied request r.reply i.spelled) own)
 asked_only c plan watts past bytes request d r steps.Unasked det once t sp i own is = absurd (is t.words t.word t.is)
 
-asked_so : (c : ToldCodecs) (plan : PostPlan) (watts : ℕ) (past : List Seen) (bytes : List ℕ) (request : Request) (spoken : Option Dialect) (found : ToldSaid) → AreDetermined c.words → SpeaksOnce c.Watts → IsTold c.words plan.dialects.items past (told.Asked request) → TellsSpoken c.words plan.dialects.items past spoken
+asked_so : (c : ToldCodecs) (plan : PostPlan) (watts : ToldWatts) (past : List Seen) (bytes : List ℕ) (request : Request) (spoken : Option Dialect) (found : ToldSaid) → AreDetermined c.words → SpeaksOnce c.Watts → IsTold c.words plan.dialects.items past (told.Asked request) → TellsSpoken c.words plan.dialects.items past spoken
     → ReplyTo c plan watts spoken request.ask bytes found → SaidSo c plan watts past bytes (Some (told.Asked request)) found
 asked_so c plan watts past bytes request None found det once t sp is =
     other_so c plan watts past bytes (told.Asked request) (Some (told.Asked request)) found t
@@ -254,7 +253,7 @@ asked_so c plan watts past bytes request (Some d) (Replied r) det once t sp (f, 
     let says : Says c plan past bytes (steps.Replied request r.reply i.spelled) = ReplyIs t.words request r.reply d (drop 8 bytes) i.spelled u (sp t.words (Asked request) u) f.whole i.reads i.kind i.spells in
     record {
       said = steps.Replied request r.reply i.spelled;
-      same = record { request = request; spelled = i.spelled; spoken = d; kept_is = refl; said_is = refl; values = i.values };
+      same = record { request = request; spelled = i.spelled; kept_is = refl; said_is = refl; values = i.values };
       is = says;
       only = λ other is. asked_only c plan watts past bytes request d r other det once t sp i says is;
     }
@@ -271,7 +270,7 @@ asked_so c plan watts past bytes request (Some d) Unasked det once t sp is = abs
 
 -- Whatever the word is.
 
-pub said_so : (c : ToldCodecs) (plan : PostPlan) (watts : ℕ) (past : List Seen) (bytes : List ℕ) (spoken : Option Dialect) (kept : Option ToldWord) (found : ToldSaid) → AreDetermined c.words → SpeaksOnce c.Watts → TellsFirst c.words plan.dialects.items past kept → TellsSpoken c.words plan.dialects.items past spoken
+pub said_so : (c : ToldCodecs) (plan : PostPlan) (watts : ToldWatts) (past : List Seen) (bytes : List ℕ) (spoken : Option Dialect) (kept : Option ToldWord) (found : ToldSaid) → AreDetermined c.words → SpeaksOnce c.Watts → TellsFirst c.words plan.dialects.items past kept → TellsSpoken c.words plan.dialects.items past spoken
     → SaysTo c plan watts spoken bytes kept found → SaidSo c plan watts past bytes kept found
 said_so c plan watts past bytes spoken None found det once t sp is = unasked_so c plan watts past bytes None found t is
 said_so c plan watts past bytes spoken (Some (told.BadFrame fault)) found det once t sp is =

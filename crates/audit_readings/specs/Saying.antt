@@ -14,10 +14,10 @@ use Rattle.post_spec.specs.Steps.{Seen}
 use Rattle.told_pasts.specs.Reading.{IsSaid}
 use Rattle.told_pasts.specs.Spelling.{SpelledWatts, ToldCodecs}
 use Rattle.told_pasts.specs.Steps as steps
-use Rattle.audit_watts.specs.declared.values.WattValues.{WattValues}
 use Rattle.audit_watts.specs.Values.{AreOf}
+use Rattle.audit_streams.specs.declared.reader.ToldWatts.{ToldWatts}
 use Rattle.audit_streams.specs.declared.reader.ToldWord.{ToldWord}
-use Rattle.audit_streams.specs.declared.reader.ToldWord.TheVariants as told
+use Rattle.audit_streams.specs.declared.reader.ToldWord.TheVariants as heard
 use Rattle.audit_readings.specs.declared.replies.ToldReply.{ToldReply}
 use Rattle.audit_readings.specs.declared.replies.ToldSaid.{ToldSaid}
 use Rattle.audit_readings.specs.declared.replies.ToldSaid.TheVariants.{Response, Replied, Other, Unasked}
@@ -54,21 +54,21 @@ IsReplyWord found None = (reply : Reply) → found ≡ Some (word.Reply reply) �
 IsReplyWord found (Some reply) = found ≡ Some (word.Reply reply)
 
 -- a payload is a reply of the kind of the request
-pub record IsReply (c : ToldCodecs) (plan : PostPlan) (watts : ℕ) (spoken : Dialect) (ask : Ask) (payload : List ℕ) (r : ToldReply) : Type 0 where
+pub record IsReply (c : ToldCodecs) (plan : PostPlan) (told : ToldWatts) (spoken : Dialect) (ask : Ask) (payload : List ℕ) (r : ToldReply) : Type 0 where
   pub reads : c.words.Reads spoken payload (Some (word.Reply r.reply))
   pub kind : answers ask r.reply.tell ≡ true
   pub spelled : SpelledWatts
   pub spells : c.Watts spoken payload spelled
-  pub values : AreOf plan spoken watts spelled r.watts
+  pub values : AreOf plan told.dialect told.watts spelled r.watts
 
-abbrev pub PayloadSo : ToldCodecs → PostPlan → ℕ → Dialect → Ask → List ℕ → Option ToldReply → Type 0
-PayloadSo c plan watts spoken ask payload None =
+abbrev pub PayloadSo : ToldCodecs → PostPlan → ToldWatts → Dialect → Ask → List ℕ → Option ToldReply → Type 0
+PayloadSo c plan told spoken ask payload None =
     (reply : Reply) (spelled : SpelledWatts) → c.words.Reads spoken payload (Some (word.Reply reply)) → answers ask reply.tell ≡ true → c.Watts spoken payload spelled → ⊥
-PayloadSo c plan watts spoken ask payload (Some r) = IsReply c plan watts spoken ask payload r
+PayloadSo c plan told spoken ask payload (Some r) = IsReply c plan told spoken ask payload r
 
-abbrev pub ReplySo : ToldCodecs → PostPlan → ℕ → Dialect → Ask → List ℕ → Option ToldReply → Type 0
-ReplySo c plan watts spoken ask bytes None = (payload : List ℕ) → bytes ≡ frame payload → PayloadSo c plan watts spoken ask payload None
-ReplySo c plan watts spoken ask bytes (Some r) = IsFrame bytes × PayloadSo c plan watts spoken ask (drop 8 bytes) (Some r)
+abbrev pub ReplySo : ToldCodecs → PostPlan → ToldWatts → Dialect → Ask → List ℕ → Option ToldReply → Type 0
+ReplySo c plan told spoken ask bytes None = (payload : List ℕ) → bytes ≡ frame payload → PayloadSo c plan told spoken ask payload None
+ReplySo c plan told spoken ask bytes (Some r) = IsFrame bytes × PayloadSo c plan told spoken ask (drop 8 bytes) (Some r)
 
 -- what bytes say to a word
 abbrev pub ResponseTo : ToldCodecs → Option Dialect → List ℕ → ToldSaid → Type 0
@@ -77,40 +77,39 @@ ResponseTo c chosen bytes (Replied r) = ⊥
 ResponseTo c chosen bytes Other = ResponseSo c.Responds bytes None
 ResponseTo c chosen bytes Unasked = ⊥
 
-abbrev pub ReplyTo : ToldCodecs → PostPlan → ℕ → Option Dialect → Ask → List ℕ → ToldSaid → Type 0
-ReplyTo c plan watts None ask bytes said = said ≡ Other
-ReplyTo c plan watts (Some spoken) ask bytes (Response own positive) = ⊥
-ReplyTo c plan watts (Some spoken) ask bytes (Replied r) = ReplySo c plan watts spoken ask bytes (Some r)
-ReplyTo c plan watts (Some spoken) ask bytes Other = ReplySo c plan watts spoken ask bytes None
-ReplyTo c plan watts (Some spoken) ask bytes Unasked = ⊥
+abbrev pub ReplyTo : ToldCodecs → PostPlan → ToldWatts → Option Dialect → Ask → List ℕ → ToldSaid → Type 0
+ReplyTo c plan told None ask bytes said = said ≡ Other
+ReplyTo c plan told (Some spoken) ask bytes (Response own positive) = ⊥
+ReplyTo c plan told (Some spoken) ask bytes (Replied r) = ReplySo c plan told spoken ask bytes (Some r)
+ReplyTo c plan told (Some spoken) ask bytes Other = ReplySo c plan told spoken ask bytes None
+ReplyTo c plan told (Some spoken) ask bytes Unasked = ⊥
 
-abbrev pub SaysTo : ToldCodecs → PostPlan → ℕ → Option Dialect → List ℕ → Option ToldWord → ToldSaid → Type 0
-SaysTo c plan watts spoken bytes None said = said ≡ Unasked
-SaysTo c plan watts spoken bytes (Some (told.BadFrame fault)) said = said ≡ Other
-SaysTo c plan watts spoken bytes (Some (told.Negotiated chosen)) said = ResponseTo c chosen bytes said
-SaysTo c plan watts spoken bytes (Some (told.Asked request)) said = ReplyTo c plan watts spoken request.ask bytes said
-SaysTo c plan watts spoken bytes (Some told.WrongSide) said = said ≡ Other
-SaysTo c plan watts spoken bytes (Some told.Refused) said = said ≡ Other
+abbrev pub SaysTo : ToldCodecs → PostPlan → ToldWatts → Option Dialect → List ℕ → Option ToldWord → ToldSaid → Type 0
+SaysTo c plan told spoken bytes None said = said ≡ Unasked
+SaysTo c plan told spoken bytes (Some (heard.BadFrame fault)) said = said ≡ Other
+SaysTo c plan told spoken bytes (Some (heard.Negotiated chosen)) said = ResponseTo c chosen bytes said
+SaysTo c plan told spoken bytes (Some (heard.Asked request)) said = ReplyTo c plan told spoken request.ask bytes said
+SaysTo c plan told spoken bytes (Some heard.WrongSide) said = said ≡ Other
+SaysTo c plan told spoken bytes (Some heard.Refused) said = said ≡ Other
 
 -- ---- as the definitions say it
 
-pub record IsToldReply (plan : PostPlan) (watts : ℕ) (kept : Option ToldWord) (r : ToldReply) (said : steps.Said) : Type 0 where
+pub record IsToldReply (plan : PostPlan) (told : ToldWatts) (kept : Option ToldWord) (r : ToldReply) (said : steps.Said) : Type 0 where
   pub request : Request
   pub spelled : SpelledWatts
-  pub spoken : Dialect
-  pub kept_is : kept ≡ Some (told.Asked request)
+  pub kept_is : kept ≡ Some (heard.Asked request)
   pub said_is : said ≡ steps.Replied request r.reply spelled
-  pub values : AreOf plan spoken watts spelled r.watts
+  pub values : AreOf plan told.dialect told.watts spelled r.watts
 
-abbrev pub IsSame : PostPlan → ℕ → Option ToldWord → ToldSaid → steps.Said → Type 0
-IsSame plan watts kept (Response chosen positive) said = said ≡ steps.Response chosen positive
-IsSame plan watts kept (Replied r) said = IsToldReply plan watts kept r said
-IsSame plan watts kept Other said = said ≡ steps.Other
-IsSame plan watts kept Unasked said = said ≡ steps.Unasked
+abbrev pub IsSame : PostPlan → ToldWatts → Option ToldWord → ToldSaid → steps.Said → Type 0
+IsSame plan told kept (Response chosen positive) said = said ≡ steps.Response chosen positive
+IsSame plan told kept (Replied r) said = IsToldReply plan told kept r said
+IsSame plan told kept Other said = said ≡ steps.Other
+IsSame plan told kept Unasked said = said ≡ steps.Unasked
 
 -- bytes say this, and nothing else
-pub record SaidSo (c : ToldCodecs) (plan : PostPlan) (watts : ℕ) (past : List Seen) (bytes : List ℕ) (kept : Option ToldWord) (found : ToldSaid) : Type 0 where
+pub record SaidSo (c : ToldCodecs) (plan : PostPlan) (told : ToldWatts) (past : List Seen) (bytes : List ℕ) (kept : Option ToldWord) (found : ToldSaid) : Type 0 where
   pub said : steps.Said
-  pub same : IsSame plan watts kept found said
+  pub same : IsSame plan told kept found said
   pub is : IsSaid c plan past bytes said
   pub only : (other : steps.Said) → IsSaid c plan past bytes other → other ≡ said

@@ -8,7 +8,7 @@ ghost use Rattle.faultless_pasts.specs.Faultless.{told_codecs};
 ghost use Rattle.audit_streams.specs.Streams as streams;
 ghost use Rattle.audit_readings.specs.Saying as saying;
 
-use audit_streams::{ToldReader, ToldStream, ToldWord};
+use audit_streams::{ToldReader, ToldStream, ToldWatts, ToldWord};
 use audit_watts::WattValues;
 use car_rules::answers;
 use charge_world::Dialect;
@@ -81,13 +81,13 @@ fn reply_word(word: Option<Word>) -> Option<Reply>
 fn reply_of<R: ToldReader>(
     reader: &mut R,
     plan: &PostPlan,
-    told: u32,
+    told: ToldWatts,
     spoken: Dialect,
     ask: &Ask,
     payload: &[u8],
 ) -> Option<ToldReply>
     requires short { length payload.now ≤ 65536 }
-    requires told { told < 32768000 }
+    requires told { told.watts < 32768000 }
     requires nominal { 0 < plan.now.nominal }
     ensures { saying.PayloadSo (told_codecs R.negotiates R.reads R.encodes R.responds R.watts) plan.now told spoken ask.now payload.now result }
 {
@@ -103,12 +103,12 @@ fn reply_of<R: ToldReader>(
 fn reply_in<R: ToldReader>(
     reader: &mut R,
     plan: &PostPlan,
-    told: u32,
+    told: ToldWatts,
     spoken: Dialect,
     ask: &Ask,
     bytes: &[u8],
 ) -> Option<ToldReply>
-    requires told { told < 32768000 }
+    requires told { told.watts < 32768000 }
     requires nominal { 0 < plan.now.nominal }
     ensures { saying.ReplySo (told_codecs R.negotiates R.reads R.encodes R.responds R.watts) plan.now told spoken ask.now bytes.now result }
 {
@@ -125,10 +125,10 @@ fn said_to<R: ToldReader>(
     spoken: Option<Dialect>,
     reader: &mut R,
     plan: &PostPlan,
-    told: u32,
+    told: ToldWatts,
     bytes: &[u8],
 ) -> ToldSaid
-    requires told { told < 32768000 }
+    requires told { told.watts < 32768000 }
     requires nominal { 0 < plan.now.nominal }
     ensures { saying.SaysTo (told_codecs R.negotiates R.reads R.encodes R.responds R.watts) plan.now told spoken bytes.now (option_map (λ word. word.now) word.entry) result }
 {
@@ -159,15 +159,15 @@ fn replied(reply: Option<ToldReply>) -> ToldSaid
     }
 }
 
-/// What bytes that were sent say to the first word without a reply, at a post that was told so many watts.
+/// What bytes that were sent say to the first word without a reply, at a post that was `told` these watts.
 pub fn said<R: ToldReader>(
     stream: &ToldStream,
     reader: &mut R,
     plan: &PostPlan,
-    told: u32,
+    told: ToldWatts,
     bytes: &[u8],
 ) -> ToldSaid
-    requires told { told < 32768000 }
+    requires told { told.watts < 32768000 }
     requires nominal { 0 < plan.now.nominal }
     ensures { (past : List Seen) → streams.AreOf (codecs R.negotiates R.reads R.encodes) plan.now.dialects.items past stream.now → streams.IsEven stream.now
         → saying.SaidSo (told_codecs R.negotiates R.reads R.encodes R.responds R.watts) plan.now told past bytes.now (streams.kept_in stream.now) result }

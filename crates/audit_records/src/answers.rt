@@ -1,6 +1,6 @@
 //! What bytes say that were sent.
 
-ghost use Rattle.std.specs.Prelude.{◌≡◌, ◌<◌, ℕ, true, List};
+ghost use Rattle.std.specs.Prelude.{◌≡◌, ◌<◌, true, List};
 ghost use Rattle.std.specs.Option.{option_map};
 ghost use Rattle.session_words.specs.declared.plan.PostPlan.{PostPlan};
 ghost use Rattle.post_spec.specs.Codecs.{codecs};
@@ -10,11 +10,12 @@ ghost use Rattle.told_pasts.specs.Steps as steps;
 ghost use Rattle.faultless_pasts.specs.Faultless.{told_codecs};
 ghost use Rattle.audit_readings.specs.Saying.{IsSame, IsToldReply};
 ghost use Rattle.audit_streams.specs.Streams as streams;
+ghost use Rattle.audit_streams.specs.declared.reader.ToldWatts.{ToldWatts};
 ghost use Rattle.audit_records.specs.Sayings.{IsAnswer, AnswersSo};
 
 use audit_course::Saying;
 use audit_readings::{ToldReply, ToldSaid, said};
-use audit_streams::{ToldReader, ToldStream, ToldWord};
+use audit_streams::{ToldReader, ToldStream, ToldWatts, ToldWord};
 use charge_world::Dialect;
 use session_words::PostPlan;
 
@@ -41,14 +42,14 @@ fn without_watts(saying: Saying) -> Answer
 
 /// A response to a negotiation.
 fn response(chosen: Option<Dialect>, positive: bool) -> Answer
-    ensures { (plan : PostPlan) (told : ℕ) → IsAnswer plan told (steps.Response chosen positive) result }
+    ensures { (plan : PostPlan) (told : ToldWatts) → IsAnswer plan told (steps.Response chosen positive) result }
 {
     without_watts(Saying::Response { chosen, positive })
 }
 
 /// The reply to this word, if it is a request.
 fn reply_to(word: Option<&ToldWord>, reply: ToldReply) -> Answer
-    ensures { (plan : PostPlan) (told : ℕ) (is : Said) → IsToldReply plan told (option_map (λ word. word.now) word.entry) reply is → IsAnswer plan told is result }
+    ensures { (plan : PostPlan) (told : ToldWatts) (is : Said) → IsToldReply plan told (option_map (λ word. word.now) word.entry) reply is → IsAnswer plan told is result }
 {
     match word {
         Some(ToldWord::Asked(request)) => Answer {
@@ -65,7 +66,7 @@ fn reply_to(word: Option<&ToldWord>, reply: ToldReply) -> Answer
 
 /// What was said to this word, as it is kept.
 fn answer_to(word: Option<&ToldWord>, said: ToldSaid) -> Answer
-    ensures { (plan : PostPlan) (told : ℕ) (is : Said) → IsSame plan told (option_map (λ word. word.now) word.entry) said is → IsAnswer plan told is result }
+    ensures { (plan : PostPlan) (told : ToldWatts) (is : Said) → IsSame plan told (option_map (λ word. word.now) word.entry) said is → IsAnswer plan told is result }
 {
     match said {
         ToldSaid::Response { chosen, positive } => response(chosen, positive),
@@ -75,15 +76,15 @@ fn answer_to(word: Option<&ToldWord>, said: ToldSaid) -> Answer
     }
 }
 
-/// What bytes say that are sent at a post that was told so many watts.
+/// What bytes say that are sent at a post that was `told` these watts.
 pub fn answer_in<R: ToldReader>(
     stream: &ToldStream,
     reader: &mut R,
     plan: &PostPlan,
-    told: u32,
+    told: ToldWatts,
     bytes: &[u8],
 ) -> Answer
-    requires told { told < 32768000 }
+    requires told { told.watts < 32768000 }
     requires nominal { 0 < plan.now.nominal }
     ensures { (past : List Seen) → streams.AreOf (codecs R.negotiates R.reads R.encodes) plan.now.dialects.items past stream.now → streams.IsEven stream.now
         → AnswersSo (told_codecs R.negotiates R.reads R.encodes R.responds R.watts) plan.now told past bytes.now result }

@@ -8,6 +8,6 @@
 mod reader;
 mod streams;
 
-pub use reader::{ToldReader, ToldWord};
+pub use reader::{ToldReader, ToldWatts, ToldWord};
 pub use std::alloc::AllocError as NoMemory;
 pub use streams::{NextWord, Speech, ToldStream};

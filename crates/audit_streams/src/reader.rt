@@ -46,6 +46,13 @@ impl ToldWord {
     }
 }
 
+/// What a post was told last: so many watts, which a reply of this dialect is to write.
+#[derive(Clone, Copy)]
+pub struct ToldWatts {
+    pub watts: u32,
+    pub dialect: Dialect,
+}
+
 /// Reads the payloads of a record, each in one way. No call takes memory.
 pub trait ToldReader: ToldCoded {
     /// What the first payload of a session is judged as, at a post that offers these dialects. It has at most 65,536 bytes.
@@ -63,19 +70,19 @@ pub trait ToldReader: ToldCoded {
         requires { length payload.now ≤ 65536 }
         ensures { (positive : Bool) → Self.responds payload.now positive ↔ (result ≡ Some positive) };
 
-    /// What is kept of the watts of the reply that a payload spells, as they are written, where the post was told so many; none where it spells
-    /// no reply.
+    /// What is kept of the watts of the reply that a payload spells in a dialect, as they are written, where the post was `told` these; none where it
+    /// spells no reply.
     fn watts(
         &mut self,
         plan: &PostPlan,
-        told: u32,
+        told: ToldWatts,
         dialect: Dialect,
         payload: &[u8],
     ) -> Option<WattValues>
         requires short { length payload.now ≤ 65536 }
-        requires told { told < 32768000 }
+        requires told { told.watts < 32768000 }
         requires nominal { 0 < plan.now.nominal }
-        ensures { IsOfWatts (Self.watts dialect payload.now) plan.now dialect told result };
+        ensures { IsOfWatts (Self.watts dialect payload.now) plan.now told.dialect told.watts result };
 
     /// Each payload is judged in one way.
     ghost determined: { AreDetermined (codecs Self.negotiates Self.reads Self.encodes) };

@@ -2,3 +2,4 @@ pub mod Entries
 mod Streaming
 mod Reading
 mod Passing
+mod Writing

@@ -1,17 +1,21 @@
 -- ISO 15118-2:2014, sections 7.8.3, 8.7 and 8.8; IEC 61851-1 and IEC 61851-23: one post of a foreign trace as it is audited, and what an entry makes
 -- of it.
-use Rattle.std.specs.Prelude.{◌≡◌, ◌≤◌, ℕ, max, ◌==◌, Bool, true, List, ◌∷◌, length, Option, None, MatchBool}
+use Rattle.std.specs.Prelude.{◌≡◌, ◌≤◌, ◌<◌, ℕ, max, ◌==◌, Bool, true, List, ◌∷◌, length, Option, Some, None, MatchBool}
 use Rattle.charge_world.specs.declared.entry.Entry.{Entry}
 use Rattle.charge_world.specs.declared.entry.Entry.TheVariants as entry
 use Rattle.charge_world.specs.declared.offer.Dialect.{Dialect}
 use Rattle.session_words.specs.declared.plan.PostPlan.{PostPlan}
 use Rattle.post_spec.specs.Codecs.{Judged, Codecs}
-use Rattle.post_spec.specs.Steps.{Act, Give, Send, End, Seen, moment, event_at, seen}
+use Rattle.post_spec.specs.Course.{Talked, read_by, told_in}
+use Rattle.post_spec.specs.Steps.{Act, Give, Send, End, Seen, Reading, moment, event_at, seen}
 use Rattle.post_spec.specs.Steps as acts
+use Rattle.told_pasts.specs.Course.{told_course}
 use Rattle.told_pasts.specs.Reading.{IsJudged, IsShown}
 use Rattle.told_pasts.specs.Site.{IsStep}
 use Rattle.told_pasts.specs.Spelling.{ToldCodecs}
 use Rattle.told_pasts.specs.Steps.{ToldStep, Hears, seen_in}
+use Rattle.audit_checks.specs.Around.{WritesSo}
+use Rattle.audit_course.specs.Values.{IsRead}
 use Rattle.audit_course.specs.declared.words.NextWord.{NextWord}
 use Rattle.audit_posts.specs.declared.stepping.About.{About}
 use Rattle.audit_posts.specs.Steps.{StepIs}
@@ -21,13 +25,19 @@ use Rattle.audit_records.specs.Sayings.{AnswersSo}
 use Rattle.audit_records.specs.declared.answers.Answer.{Answer}
 use Rattle.audit_streams.specs.Streams as streams
 use Rattle.audit_streams.specs.Streams.{NoneIsNext, IsAsked, IsEven}
+use Rattle.audit_streams.specs.declared.reader.ToldWatts.{ToldWatts}
 use Rattle.audit_streams.specs.declared.streams.ToldStream.{ToldStream}
 use Rattle.audited_posts.specs.declared.posts.AuditedPost.{AuditedPost}
+
+-- where the newest step is a reply, its watts are those that the post is told behind it, or aren't, as far as watts can be written
+abbrev pub WritesTold : PostPlan → List ToldStep → Bool → Type 0
+WritesTold plan steps writes = told_in (told_course plan steps).session < 32768000 → WritesSo plan steps writes
 
 -- post k behind a past, by which it went these steps
 pub record AreOf (c : ToldCodecs) (plan : PostPlan) (k : ℕ) (past : List Entry) (steps : List ToldStep) (v : AuditedPost) : Type 0 where
   pub kept_are : posts.AreOf c plan k past steps v.kept
   pub stream_are : streams.AreOf c.words plan.dialects.items (seen_in steps) v.stream
+  pub writes_is : WritesTold plan steps v.writes
 
 -- ---- which word an entry judges for post k
 
@@ -53,8 +63,17 @@ ShownAt c Share plan k steps (entry.Drove post given taken) shown = MatchBool (p
 ShownAt c Share plan k steps (entry.Dialed port taken) shown = Unit {0}
 ShownAt c Share plan k steps (entry.Ended post cause) shown = Unit {0}
 
--- what bytes say that an entry sends, where the post was told so many watts
-abbrev pub SaysAt : ToldCodecs → PostPlan → ℕ → ℕ → List Seen → Entry → Answer → Type 0
+-- what a session was told last, as far as that can be written
+abbrev pub TellsLast : Option Talked → ToldWatts → Type 0
+TellsLast session told = (t : Talked) → session ≡ Some t → t.stage.told < 32768000 → told ≡ record { watts = t.stage.told; dialect = t.stage.dialect }
+
+-- and behind an act for which this word was judged, and shown so many watts
+abbrev pub IsToldBehind : PostPlan → List ToldStep → Option NextWord → ℕ → ToldWatts → Type 0
+IsToldBehind plan steps word shown told = (reading : Option Reading) → IsRead word shown reading
+    → TellsLast (read_by (told_course plan steps).session (seen_in steps) (told_course plan steps) plan reading).session told
+
+-- what bytes say that an entry sends, where the post was told these watts
+abbrev pub SaysAt : ToldCodecs → PostPlan → ToldWatts → ℕ → List Seen → Entry → Answer → Type 0
 SaysAt c plan told k past (entry.Heard heard bytes) a = Unit {0}
 SaysAt c plan told k past entry.Lost a = Unit {0}
 SaysAt c plan told k past (entry.Sent post bytes taken) a = MatchBool (post == k) (AnswersSo c plan told past bytes a) (Unit {0})

@@ -2,8 +2,8 @@
 //! stream of its session.
 //!
 //! Proved: behind each entry of a trace (`AuditedPost::behind`) it is that of the longer trace and of the steps that `told_pasts` reads off it, where it is
-//! told which watts the word of the entry is shown. What the entry was about it finds by itself. `AuditedPost::fails` tells whether a check fails at the entry for
-//! this post, where it is told what no post keeps of it (`Place`).
+//! told which watts the word of the entry is shown. What the entry was about it finds by itself, and whether a reply writes the watts that the post was told.
+//! `AuditedPost::fails` tells whether a check fails at the entry for this post, where it is told what no post keeps of it (`Place`).
 #![tactic(auto)]
 
 mod checks;

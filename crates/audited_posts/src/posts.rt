@@ -1,6 +1,6 @@
 //! One post.
 
-ghost use Rattle.std.specs.Prelude.{◌≡◌, ◌<◌, ◌↔◌, ℕ, List, [], ◌∷◌, IfOk, IsTrue};
+ghost use Rattle.std.specs.Prelude.{◌≡◌, ◌<◌, ◌↔◌, ℕ, List, [], ◌∷◌, IfOk, IsTrue, if◌then◌else◌};
 ghost use Rattle.charge_world.specs.declared.entry.Entry.{Entry};
 ghost use Rattle.post_spec.specs.Codecs.{codecs};
 ghost use Rattle.post_spec.specs.Steps.{seen};
@@ -10,16 +10,19 @@ ghost use Rattle.faultless_pasts.specs.Faultless.{told_codecs};
 ghost use Rattle.audit_course.specs.Asking.{IsShare};
 ghost use Rattle.audit_mandates.specs.Values.{Starts};
 ghost use Rattle.audit_streams.specs.Streams as streams;
-ghost use Rattle.audited_posts.specs.Posts.{AreOf, JudgesAt, ShownAt, SaysAt, IsShort, IsFree, StreamsOn, Passes};
+ghost use Rattle.audit_checks.specs.Around.{sends_at};
+ghost use Rattle.audit_course.specs.Values.{course_of};
+ghost use Rattle.audited_posts.specs.Posts.{AreOf, JudgesAt, ShownAt, TellsLast, IsToldBehind, SaysAt, IsShort, IsFree, StreamsOn, Passes};
 
 use audit_course::{CourseValues, NextWord, Saying};
 use audit_posts::{About, KeptPost};
 use audit_readings::starts;
 use audit_records::{Answer, answer_in, judged_at_order, judged_at_reply, next_word};
-use audit_streams::{NoMemory, ToldReader, ToldStream};
-use charge_world::Entry;
+use audit_streams::{NoMemory, ToldReader, ToldStream, ToldWatts};
+use charge_world::{Dialect, Entry};
 use session_words::PostPlan;
 use std::alloc::Global;
+use std::mem;
 
 /// One post as it is audited.
 #[derive(Drop)]
@@ -28,6 +31,8 @@ pub struct AuditedPost {
     pub kept: KeptPost,
     /// The stream of its session.
     pub stream: ToldStream,
+    /// Where its last act is a reply, the watts of that are those that it was told.
+    pub writes: bool,
 }
 
 /// What went by at a post with an entry.
@@ -52,16 +57,47 @@ fn without_bytes() -> Answer {
 
 /// Watts as no post is told more of them.
 fn bounded(told: u32) -> u32
-    ensures { result < 32768000 }
+    ensures small { result < 32768000 }
+    ensures same { told < 32768000 → result ≡ told }
 {
     told.min(32_767_999)
 }
 
-/// The watts that a session was told last.
-fn told_in(course: &CourseValues) -> u32 {
+/// What a session was told last.
+fn told_in(course: &CourseValues) -> ToldWatts
+    ensures small { result.watts < 32768000 }
+    ensures told { TellsLast (course_of course.now).session result }
+{
     match &course.session {
-        Some(talk) => talk.told,
-        None => 0,
+        Some(talk) => ToldWatts {
+            watts: bounded(talk.told),
+            dialect: talk.dialect,
+        },
+        None => ToldWatts {
+            watts: 0,
+            dialect: Dialect::Iso,
+        },
+    }
+}
+
+/// Whether an entry sends bytes to the car of a post.
+fn sends_at(post: u8, entry: &Entry) -> bool
+    ensures { result ≡ sends_at post entry.now }
+{
+    match entry {
+        Entry::Sent { post: at, .. } => *at == post,
+        _ => false,
+    }
+}
+
+/// Whether the last act of a post writes what it was told, behind an entry that `writes` it, where that is a reply of the post, and where it was so before.
+fn writes_behind(post: u8, entry: &Entry, writes: bool, before: bool) -> bool
+    ensures { result ≡ (if sends_at post entry.now then writes else before) }
+{
+    if sends_at(post, entry) {
+        writes
+    } else {
+        before
     }
 }
 
@@ -74,6 +110,7 @@ impl AuditedPost {
         Ok(AuditedPost {
             kept: KeptPost::new::<R>(plan),
             stream,
+            writes: true,
         })
     }
 
@@ -120,16 +157,16 @@ impl AuditedPost {
         )
     }
 
-    /// What bytes say that an entry sends at the post of this number, which was told so many watts.
+    /// What bytes say that an entry sends at the post of this number, which was `told` these watts.
     fn answer<R: ToldReader>(
         &self,
         reader: &mut R,
         post: u8,
         plan: &PostPlan,
         entry: &Entry,
-        told: u32,
+        told: ToldWatts,
     ) -> Answer
-        requires told { told < 32768000 }
+        requires told { told.watts < 32768000 }
         requires nominal { 0 < plan.now.nominal }
         ensures { (past : List Entry) (steps : List ToldStep) → AreOf (told_codecs R.negotiates R.reads R.encodes R.responds R.watts) plan.now post past steps self.now → streams.IsEven self.now.stream
             → SaysAt (told_codecs R.negotiates R.reads R.encodes R.responds R.watts) plan.now told post (seen_in steps) entry.now result }
@@ -153,14 +190,25 @@ impl AuditedPost {
         }
     }
 
-    /// The watts that the post is told behind an entry, with which it asks for so many, if it does, and is shown these.
-    fn told_behind(&self, asks: Option<u32>, shown: u32) -> u32
-        ensures { result < 32768000 }
+    /// What the post is told behind an act for which this word was `judged`, if one was, and `shown` so many watts.
+    fn told_behind<R: ToldReader>(
+        &self,
+        plan: &PostPlan,
+        judged: &Option<NextWord>,
+        shown: u32,
+    ) -> ToldWatts
+        ensures small { result.watts < 32768000 }
+        ensures told { (k : ℕ) (past : List Entry) (steps : List ToldStep) → AreOf (told_codecs R.negotiates R.reads R.encodes R.responds R.watts) plan.now k past steps self.now
+            → IsToldBehind plan.now steps judged.now shown result }
     {
-        match asks {
-            Some(_) => bounded(shown),
-            None => bounded(told_in(&self.kept.course)),
-        }
+        let course = self.kept.course.copied().read(
+            &self.kept.sessions,
+            self.kept.contactor.standing,
+            plan,
+            judged,
+            shown,
+        );
+        told_in(&course)
     }
 
     /// Takes the next entry of the trace, for the post of this number, whose word is `shown` so many watts. A hearing has at most 4,096 bytes; no word is left
@@ -186,8 +234,12 @@ impl AuditedPost {
     {
         let starting = starts::<R>(&self.stream);
         let judged = self.judged::<R>(post, entry);
-        let told = self.told_behind(self.asks::<R>(post, plan, entry), shown);
-        let Answer { saying, most, .. } = self.answer(reader, post, plan, entry, told);
+        let told = self.told_behind::<R>(plan, &judged, shown);
+        let Answer {
+            saying,
+            most,
+            writes,
+        } = self.answer(reader, post, plan, entry, told);
         pass(&mut self.stream, reader, post, plan, entry);
         let next = next_word(&self.stream, reader, plan);
         let about = About {
@@ -198,7 +250,9 @@ impl AuditedPost {
             next,
         };
         let before = self.kept.copied();
-        self.kept = self.kept.copied().behind::<R>(post, plan, entry, &about);
+        let kept = mem::replace(&mut self.kept, KeptPost::new::<R>(plan));
+        self.kept = kept.behind::<R>(post, plan, entry, &about);
+        self.writes = writes_behind(post, entry, writes, self.writes);
         Passed {
             before,
             starting,

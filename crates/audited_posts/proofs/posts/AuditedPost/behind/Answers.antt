@@ -23,7 +23,11 @@ returns-clause-passes g c limit before behind past steps h even free shown =
       answer = c.answer-saying.result;
       stream = c.pass.new.stream;
       kept = c.behind-self.result;
+      old = c.args.self.now.writes;
+      writes = c.writes_behind-self.result;
       seen_is = h.kept_are.seen_is;
+      old_is = h.writes_is;
+      told_is = c.told_behind-told.ensures.told c.args.post past steps h;
       saying_is = refl;
       most_is = refl;
       next_is = λ later s. c.next_word-next.ensures later s;
@@ -32,9 +36,10 @@ returns-clause-passes g c limit before behind past steps h even free shown =
       judges = c.judged-judged.ensures c.args.plan.now past steps h;
       shown = shown;
       says = c.answer-saying.ensures past steps h even;
+      writes_is = c.writes_behind-self.ensures;
       on = c.pass.ensures past (subst (λ (s : List Seen). streams.AreOf all.words c.args.plan.now.dialects.items s c.args.self.now.stream) h.kept_are.seen_is h.stream_are) even free;
       kept_is = λ later step. c.behind-self.ensures past steps later
-          (subst (λ (v : KeptPost). posts.AreOf all c.args.plan.now c.args.post past steps v) (sym c.copied.ensures) h.kept_are) step;
+          (subst (λ (v : KeptPost). posts.AreOf all c.args.plan.now c.args.post past steps v) (sym c.replace-kept.ensures.value) h.kept_are) step;
     })
 
 pub returns-clause-starting : goal.returns-clause-starting

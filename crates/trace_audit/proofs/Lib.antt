@@ -1,0 +1,9 @@
+mod Lists
+mod Levels
+mod Told
+mod Posts
+mod Entries
+mod Passing
+mod Failing
+mod Seating
+mod Deciding
