@@ -1,0 +1,53 @@
+-- DIN SPEC 70121:2014: a message spells watts as the element of its body does.
+use Rattle.std.proofs.Common.{◌≡◌, ℕ, Option, Some, None, sym, subst}
+use Rattle.charge_world.specs.declared.offer.Dialect.TheVariants as dialect
+use Rattle.exi_documents.specs.Trees.{none}
+use Rattle.message_parts.specs.Contents.{Inside}
+use Rattle.session_words.specs.declared.plan.PostPlan.{PostPlan}
+use Rattle.din_parts.specs.declared.frame.Header.{Header}
+use Rattle.din_message.specs.Documents.{din_inside, din_tree}
+use Rattle.din_message.specs.Message.{body_element_name, body_element_inside}
+use Rattle.din_message.specs.declared.message.BodyElement.{BodyElement}
+use Rattle.din_message.specs.declared.message.DinMessage.{DinMessage}
+use Rattle.tree_words.proofs.Held.{first_is}
+use Rattle.audit_watts.specs.declared.values.WattValues.{WattValues}
+use Rattle.audit_watts.specs.Values.{no_watts}
+use Rattle.audit_streams.specs.Words.{IsOfWatts}
+use Rattle.reply_watts.specs.Replies.{DinElement, DinTree}
+
+abbrev pub BodySpells : Inside → PostPlan → ℕ → BodyElement → Option WattValues → Type 0
+BodySpells own plan told e r = IsOfWatts (DinElement own (Some (body_element_name e, body_element_inside e))) plan dialect.Din told r
+
+-- a reply that spells no watts
+pub quiet_body : (own : Inside) (e : BodyElement) {X : Type 0} (make : X → BodyElement)
+    → ((x : X) → DinElement own (Some (body_element_name (make x), body_element_inside (make x))) no_watts)
+    → (x : X) × (e ≡ make x) → DinElement own (Some (body_element_name e, body_element_inside e)) no_watts
+quiet_body own e make spells found =
+    subst (λ (d : BodyElement). DinElement own (Some (body_element_name d, body_element_inside d)) no_watts) (sym found.1) (spells found.0)
+
+-- ---- a message
+
+-- of this header and this element
+abbrev framed : Header → Option BodyElement → DinMessage
+framed header element = record { header = header; body = record { element = element } }
+
+abbrev own_of : Header → BodyElement → Inside
+own_of h e = din_inside (framed h (Some e))
+
+framed_spells : (plan : PostPlan) (told : ℕ) (h : Header) (e : BodyElement) (r : Option WattValues)
+    → IsOfWatts (DinElement (own_of h e) (Some (body_element_name e, body_element_inside e))) plan dialect.Din told r
+    → IsOfWatts (DinTree (din_tree (framed h (Some e)))) plan dialect.Din told r
+framed_spells plan told h e r is =
+    subst (λ (o : Option (ℕ × Inside)). IsOfWatts (DinElement (own_of h e) o) plan dialect.Din told r)
+    (sym (first_is (body_element_name e) (body_element_inside e) none)) is
+
+pub message_spells : (plan : PostPlan) (told : ℕ) (m : DinMessage) (e : BodyElement) (r : Option WattValues) → m.body.element ≡ Some e
+    → ((own : Inside) → IsOfWatts (DinElement own (Some (body_element_name e, body_element_inside e))) plan dialect.Din told r)
+    → IsOfWatts (DinTree (din_tree m)) plan dialect.Din told r
+message_spells plan told m e r is spells =
+    subst (λ (o : Option BodyElement). IsOfWatts (DinTree (din_tree (framed m.header o))) plan dialect.Din told r) (sym is)
+    (framed_spells plan told m.header e r (spells (own_of m.header e)))
+
+pub no_element : (plan : PostPlan) (told : ℕ) (m : DinMessage) → m.body.element ≡ None → IsOfWatts (DinTree (din_tree m)) plan dialect.Din told None
+no_element plan told m is =
+    subst (λ (o : Option BodyElement). IsOfWatts (DinTree (din_tree (framed m.header o))) plan dialect.Din told None) (sym is) (λ s spells. absurd spells.0)

@@ -1,0 +1,137 @@
+//! The watts of a reply of DIN SPEC 70121:2014 (9.4).
+
+ghost use Rattle.std.specs.Prelude.{◌≡◌, ◌<◌, [], ◌∷◌, map, Some};
+ghost use Rattle.std.specs.List.{flat_map};
+ghost use Rattle.std.specs.Option.{option_map};
+ghost use Rattle.charge_world.specs.declared.offer.Dialect.TheVariants as dialect;
+ghost use Rattle.message_parts.specs.Contents.{holding};
+ghost use Rattle.session_words.specs.Amounts.{IsMultiplier};
+ghost use Rattle.session_words.specs.declared.plan.PostPlan.{PostPlan};
+ghost use Rattle.din_parts.specs.Values.{physical_value_parts};
+ghost use Rattle.din_power.specs.Schedules.{p_max_schedule_entry_parts, sa_schedule_tuple_parts, sa_schedule_list_parts, sa_schedules_inside};
+ghost use Rattle.din_power.specs.Discovery.{charge_parameter_discovery_res_parts};
+ghost use Rattle.din_power.specs.Charging.{current_demand_res_parts};
+ghost use Rattle.tree_words.specs.Named.{children};
+ghost use Rattle.audit_watts.specs.Values.{written_of, AreOf};
+ghost use Rattle.reply_watts.specs.Values.{AreAdded, power_alone};
+ghost use Rattle.reply_watts.specs.Din as rule;
+
+use crate::values::nearest;
+use audit_watts::{WattValues, WrittenValue};
+use charge_world::Dialect;
+use din_parts::PhysicalValue;
+use din_power::{
+    ChargeParameterDiscoveryRes, CurrentDemandRes, EvseChargeParameter, PMaxScheduleEntry,
+    SaScheduleList, SaScheduleTuple, SaSchedules,
+};
+use session_words::PostPlan;
+
+/// A physical value as it is written.
+fn written(value: PhysicalValue) -> WrittenValue
+    ensures value { written_of result ≡ rule.written_in (children (holding (physical_value_parts value))) }
+    ensures multiplier { IsMultiplier result.multiplier }
+{
+    WrittenValue {
+        multiplier: nearest(value.multiplier),
+        value: value.value,
+    }
+}
+
+/// The PMax of an entry: watts, without a Multiplier.
+fn p_max(entry: &PMaxScheduleEntry) -> WrittenValue
+    ensures value { written_of result ≡ rule.entry_in (holding (p_max_schedule_entry_parts entry.now)) }
+    ensures multiplier { IsMultiplier result.multiplier }
+{
+    WrittenValue {
+        multiplier: 0,
+        value: entry.p_max,
+    }
+}
+
+/// With each PMax of these entries, the last one first.
+fn with_entries(values: WattValues, told: u32, entries: &[PMaxScheduleEntry]) -> WattValues
+    requires { told < 32768000 }
+    ensures { AreAdded dialect.Din told (map (λ e. rule.entry_in (holding (p_max_schedule_entry_parts e))) entries.now) values result }
+{
+    match entries {
+        [] => values,
+        [first, others @ ..] => {
+            let later = with_entries(values, told, others);
+            later.with_p_max(Dialect::Din, told, p_max(first))
+        }
+    }
+}
+
+/// With each PMax of these tuples, the last one first.
+fn with_tuples(values: WattValues, told: u32, tuples: &[SaScheduleTuple]) -> WattValues
+    requires { told < 32768000 }
+    ensures { AreAdded dialect.Din told (flat_map (λ t. rule.tuple_in (holding (sa_schedule_tuple_parts t))) tuples.now) values result }
+{
+    match tuples {
+        [] => values,
+        [first, others @ ..] => {
+            let later = with_tuples(values, told, others);
+            let entries = first.p_max_schedule.p_max_schedule_entry.as_slice();
+            with_entries(later, told, entries)
+        }
+    }
+}
+
+/// With each PMax of a list of schedules.
+fn with_list(values: WattValues, told: u32, list: &SaScheduleList) -> WattValues
+    requires { told < 32768000 }
+    ensures { AreAdded dialect.Din told (rule.schedules_in (holding (sa_schedule_list_parts list.now) ∷ [])) values result }
+{
+    with_tuples(values, told, list.sa_schedule_tuple.as_slice())
+}
+
+/// With each PMax of these schedules.
+fn with_schedules(values: WattValues, told: u32, schedules: &SaSchedules) -> WattValues
+    requires { told < 32768000 }
+    ensures { AreAdded dialect.Din told (rule.schedules_in (sa_schedules_inside schedules.now ∷ [])) values result }
+{
+    let SaSchedules::SaScheduleList(list) = schedules;
+    with_list(values, told, list)
+}
+
+/// What is kept of EVSEMaximumPowerLimit, where it is there.
+fn limit(told: u32, power: Option<PhysicalValue>) -> WattValues
+    requires { told < 32768000 }
+    ensures { (plan : PostPlan) → AreOf plan dialect.Din told
+        (power_alone (option_map (λ v. rule.written_in (children (holding (physical_value_parts v)))) power)) result }
+{
+    let none = WattValues::new();
+    match power {
+        Some(power) => none.with_power(told, written(power)),
+        None => none,
+    }
+}
+
+/// EVSEMaximumPowerLimit of the limits of a post.
+fn power_of(parameter: &EvseChargeParameter) -> Option<PhysicalValue>
+    ensures { result ≡ rule.limit_of parameter.now }
+{
+    let EvseChargeParameter::Dc(dc) = parameter;
+    dc.evse_maximum_power_limit
+}
+
+/// What is kept of ChargeParameterDiscoveryRes.
+pub(crate) fn parameters(told: u32, reply: &ChargeParameterDiscoveryRes) -> WattValues
+    requires { told < 32768000 }
+    ensures { (plan : PostPlan) → AreOf plan dialect.Din told
+        (rule.parameters_in (children (holding (charge_parameter_discovery_res_parts reply.now)))) result }
+{
+    let values = limit(told, power_of(&reply.evse_charge_parameter));
+    match &reply.sa_schedules {
+        Some(schedules) => with_schedules(values, told, schedules),
+        None => values,
+    }
+}
+
+/// What is kept of CurrentDemandRes.
+pub(crate) fn demand(told: u32, reply: &CurrentDemandRes) -> WattValues
+    requires { told < 32768000 }
+    ensures { (plan : PostPlan) → AreOf plan dialect.Din told (rule.demand_in (children (holding (current_demand_res_parts reply.now)))) result }
+{
+    limit(told, reply.evse_maximum_power_limit)
+}
