@@ -1,6 +1,6 @@
 -- DIN SPEC 70121:2014: a message spells watts as the element of its body does.
 use Rattle.std.proofs.Common.{◌≡◌, ℕ, Option, Some, None, sym, subst}
-use Rattle.charge_world.specs.declared.offer.Dialect.TheVariants as dialect
+use Rattle.charge_world.specs.declared.offer.Dialect.{Dialect}
 use Rattle.exi_documents.specs.Trees.{none}
 use Rattle.message_parts.specs.Contents.{Inside}
 use Rattle.session_words.specs.declared.plan.PostPlan.{PostPlan}
@@ -15,8 +15,8 @@ use Rattle.audit_watts.specs.Values.{no_watts}
 use Rattle.audit_streams.specs.Words.{IsOfWatts}
 use Rattle.reply_watts.specs.Replies.{DinElement, DinTree}
 
-abbrev pub BodySpells : Inside → PostPlan → ℕ → BodyElement → Option WattValues → Type 0
-BodySpells own plan told e r = IsOfWatts (DinElement own (Some (body_element_name e, body_element_inside e))) plan dialect.Din told r
+abbrev pub BodySpells : Inside → PostPlan → Dialect → ℕ → BodyElement → Option WattValues → Type 0
+BodySpells own plan spoken told e r = IsOfWatts (DinElement own (Some (body_element_name e, body_element_inside e))) plan spoken told r
 
 -- a reply that spells no watts
 pub quiet_body : (own : Inside) (e : BodyElement) {X : Type 0} (make : X → BodyElement)
@@ -31,23 +31,20 @@ quiet_body own e make spells found =
 abbrev framed : Header → Option BodyElement → DinMessage
 framed header element = record { header = header; body = record { element = element } }
 
-abbrev own_of : Header → BodyElement → Inside
-own_of h e = din_inside (framed h (Some e))
-
-framed_spells : (plan : PostPlan) (told : ℕ) (h : Header) (e : BodyElement) (r : Option WattValues)
-    → IsOfWatts (DinElement (own_of h e) (Some (body_element_name e, body_element_inside e))) plan dialect.Din told r
-    → IsOfWatts (DinTree (din_tree (framed h (Some e)))) plan dialect.Din told r
-framed_spells plan told h e r is =
-    subst (λ (o : Option (ℕ × Inside)). IsOfWatts (DinElement (own_of h e) o) plan dialect.Din told r)
+framed_spells : (plan : PostPlan) (spoken : Dialect) (told : ℕ) (h : Header) (e : BodyElement) (r : Option WattValues)
+    → IsOfWatts (DinElement (din_inside (framed h (Some e))) (Some (body_element_name e, body_element_inside e))) plan spoken told r
+    → IsOfWatts (DinTree (din_tree (framed h (Some e)))) plan spoken told r
+framed_spells plan spoken told h e r is =
+    subst (λ (o : Option (ℕ × Inside)). IsOfWatts (DinElement (din_inside (framed h (Some e))) o) plan spoken told r)
     (sym (first_is (body_element_name e) (body_element_inside e) none)) is
 
-pub message_spells : (plan : PostPlan) (told : ℕ) (m : DinMessage) (e : BodyElement) (r : Option WattValues) → m.body.element ≡ Some e
-    → ((own : Inside) → IsOfWatts (DinElement own (Some (body_element_name e, body_element_inside e))) plan dialect.Din told r)
-    → IsOfWatts (DinTree (din_tree m)) plan dialect.Din told r
-message_spells plan told m e r is spells =
-    subst (λ (o : Option BodyElement). IsOfWatts (DinTree (din_tree (framed m.header o))) plan dialect.Din told r) (sym is)
-    (framed_spells plan told m.header e r (spells (own_of m.header e)))
+pub message_spells : (plan : PostPlan) (spoken : Dialect) (told : ℕ) (m : DinMessage) (e : BodyElement) (r : Option WattValues) → m.body.element ≡ Some e
+    → ((own : Inside) → IsOfWatts (DinElement own (Some (body_element_name e, body_element_inside e))) plan spoken told r)
+    → IsOfWatts (DinTree (din_tree m)) plan spoken told r
+message_spells plan spoken told m e r is spells =
+    subst (λ (o : Option BodyElement). IsOfWatts (DinTree (din_tree (framed m.header o))) plan spoken told r) (sym is)
+    (framed_spells plan spoken told m.header e r (spells (din_inside (framed m.header (Some e)))))
 
-pub no_element : (plan : PostPlan) (told : ℕ) (m : DinMessage) → m.body.element ≡ None → IsOfWatts (DinTree (din_tree m)) plan dialect.Din told None
-no_element plan told m is =
-    subst (λ (o : Option BodyElement). IsOfWatts (DinTree (din_tree (framed m.header o))) plan dialect.Din told None) (sym is) (λ s spells. absurd spells.0)
+pub no_element : (plan : PostPlan) (spoken : Dialect) (told : ℕ) (m : DinMessage) → m.body.element ≡ None → IsOfWatts (DinTree (din_tree m)) plan spoken told None
+no_element plan spoken told m is =
+    subst (λ (o : Option BodyElement). IsOfWatts (DinTree (din_tree (framed m.header o))) plan spoken told None) (sym is) (λ s spells. absurd spells.0)

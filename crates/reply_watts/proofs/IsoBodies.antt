@@ -1,6 +1,6 @@
 -- ISO 15118-2:2014: a message spells watts as the element of its body does.
 use Rattle.std.proofs.Common.{◌≡◌, ℕ, Option, Some, None, sym, subst}
-use Rattle.charge_world.specs.declared.offer.Dialect.TheVariants as dialect
+use Rattle.charge_world.specs.declared.offer.Dialect.{Dialect}
 use Rattle.exi_documents.specs.Trees.{none}
 use Rattle.message_parts.specs.Contents.{Inside}
 use Rattle.session_words.specs.declared.plan.PostPlan.{PostPlan}
@@ -21,11 +21,11 @@ use Rattle.audit_watts.specs.Values.{no_watts}
 use Rattle.audit_streams.specs.Words.{IsOfWatts}
 use Rattle.reply_watts.specs.Replies.{IsoElement, IsoTree}
 
-abbrev pub BriefSpells : SessionId → PostPlan → ℕ → BriefElement → Option WattValues → Type 0
-BriefSpells session plan told e r = IsOfWatts (IsoElement session (Some (brief_element_name e, brief_element_inside e))) plan dialect.Iso told r
+abbrev pub BriefSpells : SessionId → PostPlan → Dialect → ℕ → BriefElement → Option WattValues → Type 0
+BriefSpells session plan spoken told e r = IsOfWatts (IsoElement session (Some (brief_element_name e, brief_element_inside e))) plan spoken told r
 
-abbrev pub BodySpells : SessionId → PostPlan → ℕ → BodyElement → Option WattValues → Type 0
-BodySpells session plan told e r = IsOfWatts (IsoElement session (Some (body_element_name e, body_element_inside e))) plan dialect.Iso told r
+abbrev pub BodySpells : SessionId → PostPlan → Dialect → ℕ → BodyElement → Option WattValues → Type 0
+BodySpells session plan spoken told e r = IsOfWatts (IsoElement session (Some (body_element_name e, body_element_inside e))) plan spoken told r
 
 -- a reply that spells no watts
 pub quiet_brief : (session : SessionId) (e : BriefElement) {X : Type 0} (make : X → BriefElement)
@@ -50,20 +50,20 @@ framed header element = record { header = header; body = record { element = elem
 abbrev session_of : Header → SessionId
 session_of h = session_in (within (root_children (iso_tree (framed h None)) HEADER))
 
-framed_spells : (plan : PostPlan) (told : ℕ) (h : Header) (e : BodyElement) (r : Option WattValues)
-    → IsOfWatts (IsoElement (session_of h) (Some (body_element_name e, body_element_inside e))) plan dialect.Iso told r
-    → IsOfWatts (IsoTree (iso_tree (framed h (Some e)))) plan dialect.Iso told r
-framed_spells plan told h e r is =
-    subst (λ (o : Option (ℕ × Inside)). IsOfWatts (IsoElement (session_of h) o) plan dialect.Iso told r)
+framed_spells : (plan : PostPlan) (spoken : Dialect) (told : ℕ) (h : Header) (e : BodyElement) (r : Option WattValues)
+    → IsOfWatts (IsoElement (session_of h) (Some (body_element_name e, body_element_inside e))) plan spoken told r
+    → IsOfWatts (IsoTree (iso_tree (framed h (Some e)))) plan spoken told r
+framed_spells plan spoken told h e r is =
+    subst (λ (o : Option (ℕ × Inside)). IsOfWatts (IsoElement (session_of h) o) plan spoken told r)
     (sym (first_is (body_element_name e) (body_element_inside e) none)) is
 
-pub message_spells : (plan : PostPlan) (told : ℕ) (m : IsoMessage) (e : BodyElement) (r : Option WattValues) → m.body.element ≡ Some e
-    → ((session : SessionId) → IsOfWatts (IsoElement session (Some (body_element_name e, body_element_inside e))) plan dialect.Iso told r)
-    → IsOfWatts (IsoTree (iso_tree m)) plan dialect.Iso told r
-message_spells plan told m e r is spells =
-    subst (λ (o : Option BodyElement). IsOfWatts (IsoTree (iso_tree (framed m.header o))) plan dialect.Iso told r) (sym is)
-    (framed_spells plan told m.header e r (spells (session_of m.header)))
+pub message_spells : (plan : PostPlan) (spoken : Dialect) (told : ℕ) (m : IsoMessage) (e : BodyElement) (r : Option WattValues) → m.body.element ≡ Some e
+    → ((session : SessionId) → IsOfWatts (IsoElement session (Some (body_element_name e, body_element_inside e))) plan spoken told r)
+    → IsOfWatts (IsoTree (iso_tree m)) plan spoken told r
+message_spells plan spoken told m e r is spells =
+    subst (λ (o : Option BodyElement). IsOfWatts (IsoTree (iso_tree (framed m.header o))) plan spoken told r) (sym is)
+    (framed_spells plan spoken told m.header e r (spells (session_of m.header)))
 
-pub no_element : (plan : PostPlan) (told : ℕ) (m : IsoMessage) → m.body.element ≡ None → IsOfWatts (IsoTree (iso_tree m)) plan dialect.Iso told None
-no_element plan told m is =
-    subst (λ (o : Option BodyElement). IsOfWatts (IsoTree (iso_tree (framed m.header o))) plan dialect.Iso told None) (sym is) (λ s spells. absurd spells.0)
+pub no_element : (plan : PostPlan) (spoken : Dialect) (told : ℕ) (m : IsoMessage) → m.body.element ≡ None → IsOfWatts (IsoTree (iso_tree m)) plan spoken told None
+no_element plan spoken told m is =
+    subst (λ (o : Option BodyElement). IsOfWatts (IsoTree (iso_tree (framed m.header o))) plan spoken told None) (sym is) (λ s spells. absurd spells.0)

@@ -3,7 +3,7 @@ use Rattle.std.proofs.Common.{◌≡◌, ℕ, List, [], ◌∷◌, map, Option, 
 use Rattle.std.specs.List.{flat_map}
 use Rattle.std.specs.Option.{option_map}
 use Rattle.std.proofs.lemmas.List.{append-nil}
-use Rattle.charge_world.specs.declared.offer.Dialect.TheVariants as dialect
+use Rattle.charge_world.specs.declared.offer.Dialect.{Dialect}
 use Rattle.exi_documents.specs.Trees.{Ordinal}
 use Rattle.message_parts.specs.Contents.{Inside, Part, Of, one, perhaps_one, mapped, holding}
 use Rattle.session_words.specs.declared.plan.PostPlan.{PostPlan}
@@ -64,11 +64,11 @@ list_read l =
     by_parts (λ x. flat_map tuple_in (x SA_SCHEDULE_TUPLE)) (sa_schedule_list_parts l)
     ∙ joins_each tuple_in tuple_inside l.sa_schedule_tuple.items
 
-pub added_of : (told : ℕ) (l : SaScheduleList) (ts : List SaScheduleTuple) (before behind : WattValues) → ts ≡ l.sa_schedule_tuple.items
-    → AreAdded dialect.Iso told (flat_map (λ t. tuple_in (tuple_inside t)) ts) before behind
-    → AreAdded dialect.Iso told (schedules_in (holding (sa_schedule_list_parts l) ∷ [])) before behind
-added_of told l ts before behind items added =
-    subst (λ (ws : List Written). AreAdded dialect.Iso told ws before behind)
+pub added_of : (spoken : Dialect) (told : ℕ) (l : SaScheduleList) (ts : List SaScheduleTuple) (before behind : WattValues) → ts ≡ l.sa_schedule_tuple.items
+    → AreAdded spoken told (flat_map (λ t. tuple_in (tuple_inside t)) ts) before behind
+    → AreAdded spoken told (schedules_in (holding (sa_schedule_list_parts l) ∷ [])) before behind
+added_of spoken told l ts before behind items added =
+    subst (λ (ws : List Written). AreAdded spoken told ws before behind)
     (ap (flat_map (λ t. tuple_in (tuple_inside t))) items ∙ sym (list_read l)) added
 
 -- ---- parameters
@@ -85,19 +85,19 @@ reply_parts code processing list limits =
 abbrev pub limits_alone : EvseChargeParameter → SpelledWatts
 limits_alone l = limits_in (children (holding (one (evse_charge_parameter_name l) (evse_charge_parameter_inside l) ∷ [])))
 
-pub ac_kept : (plan : PostPlan) (told : ℕ) (l : EvseChargeParameter) (x : AcEvseChargeParameter) (w : Written) (v : WattValues) → l ≡ evse.Ac x
-    → w ≡ value_written x.evse_max_current → AreOf plan dialect.Iso told (current_alone (Some w)) v → AreOf plan dialect.Iso told (limits_alone l) v
-ac_kept plan told l x w v is written h =
-    subst (λ (k : EvseChargeParameter). AreOf plan dialect.Iso told (limits_alone k) v) (sym is)
-    (subst (λ (u : Written). AreOf plan dialect.Iso told (current_alone (Some u)) v) written h)
+pub ac_kept : (plan : PostPlan) (spoken : Dialect) (told : ℕ) (l : EvseChargeParameter) (x : AcEvseChargeParameter) (w : Written) (v : WattValues) → l ≡ evse.Ac x
+    → w ≡ value_written x.evse_max_current → AreOf plan spoken told (current_alone (Some w)) v → AreOf plan spoken told (limits_alone l) v
+ac_kept plan spoken told l x w v is written h =
+    subst (λ (k : EvseChargeParameter). AreOf plan spoken told (limits_alone k) v) (sym is)
+    (subst (λ (u : Written). AreOf plan spoken told (current_alone (Some u)) v) written h)
 
 dc_alone : (x : DcEvseChargeParameter) → limits_alone (evse.Dc x) ≡ power_alone (Some (value_written x.evse_maximum_power_limit))
 dc_alone x = by_parts (λ c. power_alone (written_if (c EVSE_MAXIMUM_POWER_LIMIT))) (dc_evse_charge_parameter_parts x)
 
-pub dc_kept : (plan : PostPlan) (told : ℕ) (l : EvseChargeParameter) (x : DcEvseChargeParameter) (w : Written) (v : WattValues) → l ≡ evse.Dc x
-    → w ≡ value_written x.evse_maximum_power_limit → AreOf plan dialect.Iso told (power_alone (Some w)) v → AreOf plan dialect.Iso told (limits_alone l) v
-dc_kept plan told l x w v is written h =
-    subst (λ (s : SpelledWatts). AreOf plan dialect.Iso told s v)
+pub dc_kept : (plan : PostPlan) (spoken : Dialect) (told : ℕ) (l : EvseChargeParameter) (x : DcEvseChargeParameter) (w : Written) (v : WattValues) → l ≡ evse.Dc x
+    → w ≡ value_written x.evse_maximum_power_limit → AreOf plan spoken told (power_alone (Some w)) v → AreOf plan spoken told (limits_alone l) v
+dc_kept plan spoken told l x w v is written h =
+    subst (λ (s : SpelledWatts). AreOf plan spoken told s v)
     (ap (λ (u : Written). power_alone (Some u)) written ∙ sym (dc_alone x) ∙ ap limits_alone (sym is)) h
 
 abbrev pub scheduled : Option SaSchedules → List Written
@@ -117,19 +117,19 @@ parameters_read x =
     by_parts parameters_in (charge_parameter_discovery_res_parts x)
     ∙ parts_read x.response_code x.evse_processing x.sa_schedules x.evse_charge_parameter
 
-pub without_schedules : (plan : PostPlan) (told : ℕ) (x : ChargeParameterDiscoveryRes) (v : WattValues) → x.sa_schedules ≡ None
-    → AreOf plan dialect.Iso told (limits_alone x.evse_charge_parameter) v
-    → AreOf plan dialect.Iso told (parameters_in (of_parts (charge_parameter_discovery_res_parts x))) v
-without_schedules plan told x v is h =
-    subst (λ (s : SpelledWatts). AreOf plan dialect.Iso told s v)
+pub without_schedules : (plan : PostPlan) (spoken : Dialect) (told : ℕ) (x : ChargeParameterDiscoveryRes) (v : WattValues) → x.sa_schedules ≡ None
+    → AreOf plan spoken told (limits_alone x.evse_charge_parameter) v
+    → AreOf plan spoken told (parameters_in (of_parts (charge_parameter_discovery_res_parts x))) v
+without_schedules plan spoken told x v is h =
+    subst (λ (s : SpelledWatts). AreOf plan spoken told s v)
     (ap (λ (o : Option SaSchedules). record (limits_alone x.evse_charge_parameter) { p_max = scheduled o }) (sym is) ∙ sym (parameters_read x)) h
 
-pub with_schedules : (plan : PostPlan) (told : ℕ) (x : ChargeParameterDiscoveryRes) (s : SaSchedules) (v r : WattValues) → x.sa_schedules ≡ Some s
-    → AreOf plan dialect.Iso told (limits_alone x.evse_charge_parameter) v
-    → AreAdded dialect.Iso told (schedules_in (sa_schedules_inside s ∷ [])) v r
-    → AreOf plan dialect.Iso told (parameters_in (of_parts (charge_parameter_discovery_res_parts x))) r
-with_schedules plan told x s v r is h added =
-    subst (λ (t : SpelledWatts). AreOf plan dialect.Iso told t r)
+pub with_schedules : (plan : PostPlan) (spoken : Dialect) (told : ℕ) (x : ChargeParameterDiscoveryRes) (s : SaSchedules) (v r : WattValues) → x.sa_schedules ≡ Some s
+    → AreOf plan spoken told (limits_alone x.evse_charge_parameter) v
+    → AreAdded spoken told (schedules_in (sa_schedules_inside s ∷ [])) v r
+    → AreOf plan spoken told (parameters_in (of_parts (charge_parameter_discovery_res_parts x))) r
+with_schedules plan spoken told x s v r is h added =
+    subst (λ (t : SpelledWatts). AreOf plan spoken told t r)
     (ap (λ (ws : List Written). record (limits_alone x.evse_charge_parameter) { p_max = ws }) (append-nil (scheduled (Some s)))
     ∙ ap (λ (o : Option SaSchedules). record (limits_alone x.evse_charge_parameter) { p_max = scheduled o }) (sym is) ∙ sym (parameters_read x))
     (added plan (limits_alone x.evse_charge_parameter) h)

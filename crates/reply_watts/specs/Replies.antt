@@ -19,11 +19,13 @@ IsReply (word.Request request) = ⊥
 IsReply (word.Reply reply) = Unit {0}
 IsReply word.Nothing = ⊥
 
--- ---- the first element of a body is that of a reply, under this identifier or in a message that contains this, and spells these watts
+-- ---- the first element of a body is that of a reply, and spells these watts
 
+-- under this identifier
 abbrev pub IsoElement : SessionId → Option (ℕ × Inside) → SpelledWatts → Type 0
 IsoElement session element s = IsReply (iso_words.body_word session element) × (s ≡ iso.body_watts element)
 
+-- of this message
 abbrev pub DinElement : Inside → Option (ℕ × Inside) → SpelledWatts → Type 0
 DinElement own element s = IsReply (din_words.word_named element own) × (s ≡ din.body_watts element)
 

@@ -3,7 +3,6 @@
 ghost use Rattle.std.specs.Prelude.{◌≡◌, ◌<◌, [], ◌∷◌, map, Some};
 ghost use Rattle.std.specs.List.{flat_map};
 ghost use Rattle.std.specs.Option.{option_map};
-ghost use Rattle.charge_world.specs.declared.offer.Dialect.TheVariants as dialect;
 ghost use Rattle.message_parts.specs.Contents.{holding};
 ghost use Rattle.session_words.specs.Amounts.{IsMultiplier};
 ghost use Rattle.session_words.specs.declared.plan.PostPlan.{PostPlan};
@@ -49,55 +48,70 @@ fn p_max(entry: &PMaxScheduleEntry) -> WrittenValue
 }
 
 /// With each PMax of these entries, the last one first.
-fn with_entries(values: WattValues, told: u32, entries: &[PMaxScheduleEntry]) -> WattValues
+fn with_entries(
+    values: WattValues,
+    spoken: Dialect,
+    told: u32,
+    entries: &[PMaxScheduleEntry],
+) -> WattValues
     requires { told < 32768000 }
-    ensures { AreAdded dialect.Din told (map (λ e. rule.entry_in (holding (p_max_schedule_entry_parts e))) entries.now) values result }
+    ensures { AreAdded spoken told (map (λ e. rule.entry_in (holding (p_max_schedule_entry_parts e))) entries.now) values result }
 {
     match entries {
         [] => values,
         [first, others @ ..] => {
-            let later = with_entries(values, told, others);
-            later.with_p_max(Dialect::Din, told, p_max(first))
+            let later = with_entries(values, spoken, told, others);
+            later.with_p_max(spoken, told, p_max(first))
         }
     }
 }
 
 /// With each PMax of these tuples, the last one first.
-fn with_tuples(values: WattValues, told: u32, tuples: &[SaScheduleTuple]) -> WattValues
+fn with_tuples(
+    values: WattValues,
+    spoken: Dialect,
+    told: u32,
+    tuples: &[SaScheduleTuple],
+) -> WattValues
     requires { told < 32768000 }
-    ensures { AreAdded dialect.Din told (flat_map (λ t. rule.tuple_in (holding (sa_schedule_tuple_parts t))) tuples.now) values result }
+    ensures { AreAdded spoken told (flat_map (λ t. rule.tuple_in (holding (sa_schedule_tuple_parts t))) tuples.now) values result }
 {
     match tuples {
         [] => values,
         [first, others @ ..] => {
-            let later = with_tuples(values, told, others);
+            let later = with_tuples(values, spoken, told, others);
             let entries = first.p_max_schedule.p_max_schedule_entry.as_slice();
-            with_entries(later, told, entries)
+            with_entries(later, spoken, told, entries)
         }
     }
 }
 
 /// With each PMax of a list of schedules.
-fn with_list(values: WattValues, told: u32, list: &SaScheduleList) -> WattValues
+fn with_list(values: WattValues, spoken: Dialect, told: u32, list: &SaScheduleList) -> WattValues
     requires { told < 32768000 }
-    ensures { AreAdded dialect.Din told (rule.schedules_in (holding (sa_schedule_list_parts list.now) ∷ [])) values result }
+    ensures { AreAdded spoken told (rule.schedules_in (holding (sa_schedule_list_parts list.now) ∷ [])) values result }
 {
-    with_tuples(values, told, list.sa_schedule_tuple.as_slice())
+    with_tuples(values, spoken, told, list.sa_schedule_tuple.as_slice())
 }
 
 /// With each PMax of these schedules.
-fn with_schedules(values: WattValues, told: u32, schedules: &SaSchedules) -> WattValues
+fn with_schedules(
+    values: WattValues,
+    spoken: Dialect,
+    told: u32,
+    schedules: &SaSchedules,
+) -> WattValues
     requires { told < 32768000 }
-    ensures { AreAdded dialect.Din told (rule.schedules_in (sa_schedules_inside schedules.now ∷ [])) values result }
+    ensures { AreAdded spoken told (rule.schedules_in (sa_schedules_inside schedules.now ∷ [])) values result }
 {
     let SaSchedules::SaScheduleList(list) = schedules;
-    with_list(values, told, list)
+    with_list(values, spoken, told, list)
 }
 
 /// What is kept of EVSEMaximumPowerLimit, where it is there.
-fn limit(told: u32, power: Option<PhysicalValue>) -> WattValues
+fn limit(spoken: Dialect, told: u32, power: Option<PhysicalValue>) -> WattValues
     requires { told < 32768000 }
-    ensures { (plan : PostPlan) → AreOf plan dialect.Din told
+    ensures { (plan : PostPlan) → AreOf plan spoken told
         (power_alone (option_map (λ v. rule.written_in (children (holding (physical_value_parts v)))) power)) result }
 {
     let none = WattValues::new();
@@ -116,22 +130,26 @@ fn power_of(parameter: &EvseChargeParameter) -> Option<PhysicalValue>
 }
 
 /// What is kept of ChargeParameterDiscoveryRes.
-pub(crate) fn parameters(told: u32, reply: &ChargeParameterDiscoveryRes) -> WattValues
+pub(crate) fn parameters(
+    spoken: Dialect,
+    told: u32,
+    reply: &ChargeParameterDiscoveryRes,
+) -> WattValues
     requires { told < 32768000 }
-    ensures { (plan : PostPlan) → AreOf plan dialect.Din told
+    ensures { (plan : PostPlan) → AreOf plan spoken told
         (rule.parameters_in (children (holding (charge_parameter_discovery_res_parts reply.now)))) result }
 {
-    let values = limit(told, power_of(&reply.evse_charge_parameter));
+    let values = limit(spoken, told, power_of(&reply.evse_charge_parameter));
     match &reply.sa_schedules {
-        Some(schedules) => with_schedules(values, told, schedules),
+        Some(schedules) => with_schedules(values, spoken, told, schedules),
         None => values,
     }
 }
 
 /// What is kept of CurrentDemandRes.
-pub(crate) fn demand(told: u32, reply: &CurrentDemandRes) -> WattValues
+pub(crate) fn demand(spoken: Dialect, told: u32, reply: &CurrentDemandRes) -> WattValues
     requires { told < 32768000 }
-    ensures { (plan : PostPlan) → AreOf plan dialect.Din told (rule.demand_in (children (holding (current_demand_res_parts reply.now)))) result }
+    ensures { (plan : PostPlan) → AreOf plan spoken told (rule.demand_in (children (holding (current_demand_res_parts reply.now)))) result }
 {
-    limit(told, reply.evse_maximum_power_limit)
+    limit(spoken, told, reply.evse_maximum_power_limit)
 }

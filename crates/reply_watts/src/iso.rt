@@ -3,7 +3,6 @@
 ghost use Rattle.std.specs.Prelude.{◌≡◌, ◌<◌, [], ◌∷◌, map, Some};
 ghost use Rattle.std.specs.List.{flat_map};
 ghost use Rattle.std.specs.Option.{option_map};
-ghost use Rattle.charge_world.specs.declared.offer.Dialect.TheVariants as dialect;
 ghost use Rattle.message_parts.specs.Contents.{one, holding};
 ghost use Rattle.session_words.specs.Amounts.{IsMultiplier};
 ghost use Rattle.session_words.specs.declared.plan.PostPlan.{PostPlan};
@@ -48,56 +47,76 @@ fn p_max(entry: &PMaxScheduleEntry) -> WrittenValue
 }
 
 /// With each PMax of these entries, the last one first.
-fn with_entries(values: WattValues, told: u32, entries: &[PMaxScheduleEntry]) -> WattValues
+fn with_entries(
+    values: WattValues,
+    spoken: Dialect,
+    told: u32,
+    entries: &[PMaxScheduleEntry],
+) -> WattValues
     requires { told < 32768000 }
-    ensures { AreAdded dialect.Iso told (map (λ e. rule.entry_in (holding (p_max_schedule_entry_parts e))) entries.now) values result }
+    ensures { AreAdded spoken told (map (λ e. rule.entry_in (holding (p_max_schedule_entry_parts e))) entries.now) values result }
 {
     match entries {
         [] => values,
         [first, others @ ..] => {
-            let later = with_entries(values, told, others);
-            later.with_p_max(Dialect::Iso, told, p_max(first))
+            let later = with_entries(values, spoken, told, others);
+            later.with_p_max(spoken, told, p_max(first))
         }
     }
 }
 
 /// With each PMax of these tuples, the last one first.
-fn with_tuples(values: WattValues, told: u32, tuples: &[SaScheduleTuple]) -> WattValues
+fn with_tuples(
+    values: WattValues,
+    spoken: Dialect,
+    told: u32,
+    tuples: &[SaScheduleTuple],
+) -> WattValues
     requires { told < 32768000 }
-    ensures { AreAdded dialect.Iso told (flat_map (λ t. rule.tuple_in (holding (sa_schedule_tuple_parts t))) tuples.now) values result }
+    ensures { AreAdded spoken told (flat_map (λ t. rule.tuple_in (holding (sa_schedule_tuple_parts t))) tuples.now) values result }
 {
     match tuples {
         [] => values,
         [first, others @ ..] => {
-            let later = with_tuples(values, told, others);
+            let later = with_tuples(values, spoken, told, others);
             let entries = first.p_max_schedule.p_max_schedule_entry.as_slice();
-            with_entries(later, told, entries)
+            with_entries(later, spoken, told, entries)
         }
     }
 }
 
 /// With each PMax of a list of schedules.
-fn with_list(values: WattValues, told: u32, list: &SaScheduleList) -> WattValues
+fn with_list(values: WattValues, spoken: Dialect, told: u32, list: &SaScheduleList) -> WattValues
     requires { told < 32768000 }
-    ensures { AreAdded dialect.Iso told (rule.schedules_in (holding (sa_schedule_list_parts list.now) ∷ [])) values result }
+    ensures { AreAdded spoken told (rule.schedules_in (holding (sa_schedule_list_parts list.now) ∷ [])) values result }
 {
-    with_tuples(values, told, list.sa_schedule_tuple.as_slice())
+    with_tuples(values, spoken, told, list.sa_schedule_tuple.as_slice())
 }
 
 /// With each PMax of these schedules.
-fn with_schedules(values: WattValues, told: u32, schedules: &SaSchedules) -> WattValues
+fn with_schedules(
+    values: WattValues,
+    spoken: Dialect,
+    told: u32,
+    schedules: &SaSchedules,
+) -> WattValues
     requires { told < 32768000 }
-    ensures { AreAdded dialect.Iso told (rule.schedules_in (sa_schedules_inside schedules.now ∷ [])) values result }
+    ensures { AreAdded spoken told (rule.schedules_in (sa_schedules_inside schedules.now ∷ [])) values result }
 {
     let SaSchedules::SaScheduleList(list) = schedules;
-    with_list(values, told, list)
+    with_list(values, spoken, told, list)
 }
 
 /// What is kept of the limits of a post.
-fn limits(plan: &PostPlan, told: u32, parameter: &EvseChargeParameter) -> WattValues
+fn limits(
+    plan: &PostPlan,
+    spoken: Dialect,
+    told: u32,
+    parameter: &EvseChargeParameter,
+) -> WattValues
     requires told { told < 32768000 }
     requires nominal { 0 < plan.now.nominal }
-    ensures { AreOf plan.now dialect.Iso told
+    ensures { AreOf plan.now spoken told
         (rule.limits_in (children (holding (one (evse_charge_parameter_name parameter.now) (evse_charge_parameter_inside parameter.now) ∷ []))))
         result }
 {
@@ -111,24 +130,25 @@ fn limits(plan: &PostPlan, told: u32, parameter: &EvseChargeParameter) -> WattVa
 /// What is kept of ChargeParameterDiscoveryRes.
 pub(crate) fn parameters(
     plan: &PostPlan,
+    spoken: Dialect,
     told: u32,
     reply: &ChargeParameterDiscoveryRes,
 ) -> WattValues
     requires told { told < 32768000 }
     requires nominal { 0 < plan.now.nominal }
-    ensures { AreOf plan.now dialect.Iso told (rule.parameters_in (children (holding (charge_parameter_discovery_res_parts reply.now)))) result }
+    ensures { AreOf plan.now spoken told (rule.parameters_in (children (holding (charge_parameter_discovery_res_parts reply.now)))) result }
 {
-    let values = limits(plan, told, &reply.evse_charge_parameter);
+    let values = limits(plan, spoken, told, &reply.evse_charge_parameter);
     match &reply.sa_schedules {
-        Some(schedules) => with_schedules(values, told, schedules),
+        Some(schedules) => with_schedules(values, spoken, told, schedules),
         None => values,
     }
 }
 
 /// What is kept of EVSEMaximumPowerLimit, where it is there.
-fn limit(told: u32, power: Option<PhysicalValue>) -> WattValues
+fn limit(spoken: Dialect, told: u32, power: Option<PhysicalValue>) -> WattValues
     requires { told < 32768000 }
-    ensures { (plan : PostPlan) → AreOf plan dialect.Iso told
+    ensures { (plan : PostPlan) → AreOf plan spoken told
         (power_alone (option_map (λ v. rule.written_in (children (holding (physical_value_parts v)))) power)) result }
 {
     let none = WattValues::new();
@@ -139,17 +159,22 @@ fn limit(told: u32, power: Option<PhysicalValue>) -> WattValues
 }
 
 /// What is kept of CurrentDemandRes.
-pub(crate) fn demand(told: u32, reply: &CurrentDemandRes<'_>) -> WattValues
+pub(crate) fn demand(spoken: Dialect, told: u32, reply: &CurrentDemandRes<'_>) -> WattValues
     requires { told < 32768000 }
-    ensures { (plan : PostPlan) → AreOf plan dialect.Iso told (rule.demand_in (children (holding (current_demand_res_parts reply.now)))) result }
+    ensures { (plan : PostPlan) → AreOf plan spoken told (rule.demand_in (children (holding (current_demand_res_parts reply.now)))) result }
 {
-    limit(told, reply.evse_maximum_power_limit)
+    limit(spoken, told, reply.evse_maximum_power_limit)
 }
 
 /// What is kept of EVSEMaxCurrent, where it is there.
-fn current(plan: &PostPlan, told: u32, current: Option<PhysicalValue>) -> WattValues
+fn current(
+    plan: &PostPlan,
+    spoken: Dialect,
+    told: u32,
+    current: Option<PhysicalValue>,
+) -> WattValues
     requires { 0 < plan.now.nominal }
-    ensures { AreOf plan.now dialect.Iso told
+    ensures { AreOf plan.now spoken told
         (current_alone (option_map (λ v. rule.written_in (children (holding (physical_value_parts v)))) current)) result }
 {
     let none = WattValues::new();
@@ -160,9 +185,14 @@ fn current(plan: &PostPlan, told: u32, current: Option<PhysicalValue>) -> WattVa
 }
 
 /// What is kept of ChargingStatusRes.
-pub(crate) fn status(plan: &PostPlan, told: u32, reply: &ChargingStatusRes<'_>) -> WattValues
+pub(crate) fn status(
+    plan: &PostPlan,
+    spoken: Dialect,
+    told: u32,
+    reply: &ChargingStatusRes<'_>,
+) -> WattValues
     requires { 0 < plan.now.nominal }
-    ensures { AreOf plan.now dialect.Iso told (rule.status_in (children (holding (charging_status_res_parts reply.now)))) result }
+    ensures { AreOf plan.now spoken told (rule.status_in (children (holding (charging_status_res_parts reply.now)))) result }
 {
-    current(plan, told, reply.evse_max_current)
+    current(plan, spoken, told, reply.evse_max_current)
 }

@@ -1,5 +1,4 @@
 use Rattle.std.proofs.Common.{sym, subst}
-use Rattle.charge_world.specs.declared.offer.Dialect.TheVariants as dialect
 use Rattle.told_pasts.specs.Spelling.{SpelledWatts}
 use Rattle.audit_watts.specs.Values.{AreOf}
 use Rattle.reply_watts.proofs.DinTrees.{demand_read}
@@ -7,4 +6,4 @@ use Rattle.reply_watts.proofs.din.demand.Goals as goal
 
 pub returns : goal.returns
 returns c plan =
-    subst (λ (s : SpelledWatts). AreOf plan dialect.Din c.args.told s c.limit.result) (sym (demand_read c.args.reply.now)) (c.limit.ensures plan)
+    subst (λ (s : SpelledWatts). AreOf plan c.args.spoken c.args.told s c.limit.result) (sym (demand_read c.args.reply.now)) (c.limit.ensures plan)

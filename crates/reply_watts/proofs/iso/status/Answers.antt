@@ -1,5 +1,4 @@
 use Rattle.std.proofs.Common.{sym, subst}
-use Rattle.charge_world.specs.declared.offer.Dialect.TheVariants as dialect
 use Rattle.told_pasts.specs.Spelling.{SpelledWatts}
 use Rattle.audit_watts.specs.Values.{AreOf}
 use Rattle.reply_watts.proofs.IsoTrees.{status_read}
@@ -7,4 +6,4 @@ use Rattle.reply_watts.proofs.iso.status.Goals as goal
 
 pub returns : goal.returns
 returns c =
-    subst (λ (s : SpelledWatts). AreOf c.args.plan.now dialect.Iso c.args.told s c.current.result) (sym (status_read c.args.reply.now)) c.current.ensures
+    subst (λ (s : SpelledWatts). AreOf c.args.plan.now c.args.spoken c.args.told s c.current.result) (sym (status_read c.args.reply.now)) c.current.ensures
