@@ -1,9 +1,8 @@
 #!/usr/bin/env python3
 """Writes the types of a dialect's messages from the list of its declarations: enumerations, structs, groups and choices, with their parts
-and their proofs, and how each type is read from a tree.
+and their proofs.
 
-usage: message_types.py LIST SCHEMA TYPES            writes crates/CRATE/{src,specs,proofs} for the files and kinds that TYPES lists, and what
-                                                     those of ISO 15118-2 are read as to crates/iso_trees
+usage: message_types.py LIST SCHEMA TYPES            writes crates/CRATE/{src,specs,proofs} for the files and kinds that TYPES lists
        message_types.py --check LIST SCHEMA TYPES    exits 1 where a file differs from what would be written
 
 SCHEMA is the crate of the dialect's schema. The kinds of a file are all enumerations or none is. The head of tools/iso.schema says what
@@ -12,7 +11,6 @@ import re
 import sys
 
 from message_proofs import proofs
-from message_readers import reader_files
 from message_shapes import Types, in_groups
 from message_specs import definitions
 from reached_paths import Reached
@@ -20,14 +18,12 @@ from schema_lists import Refused
 from written_files import settle, told
 
 WORDS = [
-    "Binary", "Choice", "Descent", "Group", "LargeChoice", "LargeGroup", "LargeRecord", "OptionalSecond", "PutChoice", "PutRecord", "ReadRecord",
+    "Binary", "Choice", "Descent", "Group", "LargeChoice", "LargeGroup", "LargeRecord", "OptionalChildren", "OptionalSecond", "PutChoice", "PutRecord", "ReadRecord",
     "Record", "Text", "Three", "ThreeChildren", "choice", "first_child", "left_out", "member", "member_here", "member_value",
-    "optional", "optional_choice", "optional_choice_here", "optional_here", "optional_value", "put_attribute", "put_choice",
+    "optional", "optional_children", "optional_choice", "optional_choice_here", "optional_here", "optional_value", "put_attribute", "put_choice",
     "put_optional", "put_optional_attribute", "put_optional_choice", "put_optional_value", "put_record", "put_records",
     "put_value", "put_values", "records_here", "required", "required_here", "three_children", "value", "values", "whole_record",
 ]
-# the schemas whose types are read from trees; of others tables say what a tree means
-READ_FROM_TREES = ["iso_schema"]
 CHILDREN = [
     "AtMostOneOf", "Elements", "Elements2", "Elements3", "Elements4", "LeftOut", "OneOf", "Optional", "OptionalValue", "Required", "RequiredValue",
     "Several", "SeveralValues", "WithAttribute", "WithOptionalAttribute",
@@ -170,16 +166,22 @@ impl<'a> LargeRecord<'a> for {name} {{
 """
 
 
-def three_values(t, kind):
-    """The children of a struct of three values, which are put at once."""
+def put_at_once(t, kind):
+    """The children of a struct of three values, of which the second may be absent, which are put at once."""
+    if t.is_three(kind):
+        function, result, made = "three_values", "ThreeChildren", "three_children"
+    elif t.is_optional_second(kind):
+        function, result, made = "optional_values", "OptionalChildren", "optional_children"
+    else:
+        return ""
     given = "".join(f"            names::{it.name},\n            &self.{it.field},\n" for it in t.fields(kind))
     return f"""    #[inline(always)]
-    fn three_values(&self) -> Option<ThreeChildren> {{
-        three_children(
+    fn {function}(&self) -> Option<{result}> {{
+        {made}(
 {given}        )
     }}
 
-""" if t.is_three(kind) else ""
+"""
 
 
 def large_record(t, kind, lent):
@@ -225,7 +227,7 @@ impl PutRecord for {name}{"<'_>" if lent else ""} {{
 
     ghost parts = {{ {f"{low}_parts" if kept else "λ v. []"} }};
 
-{three_values(t, kind)}    fn write<P: Places>(&self, {writer}: &mut EventWriter<'_, '_, P>) {{
+{put_at_once(t, kind)}    fn write<P: Places>(&self, {writer}: &mut EventWriter<'_, '_, P>) {{
 {puts}    }}
 }}
 
@@ -476,7 +478,6 @@ def written(t):
         files[f"{crate}/specs/{file.capitalize()}.antt"] = definitions(t, crate, file, kinds)
         for kind in kinds:
             files.update({f"{crate}/proofs/{at}/Answers.antt": text for at, text in proofs(t, crate, file, kind).items()})
-    files.update(reader_files(t) if t.s.crate in READ_FROM_TREES else {})
     reached = Reached()
     try:
         return {f"crates/{at}": reached.text(at.split("/")[0], text, at.endswith(".rt")) for at, text in files.items()}

@@ -13,7 +13,8 @@ use crate::tables::{
     UNSIGNED_BYTE, UNSIGNED_INT, negotiation,
 };
 use exi_schema::{
-    Codes, Datatype, MemberStanding, Offer, Place, Places, Root, Sought, Step, is_sought,
+    Codes, Datatype, MemberStanding, Offer, OptionalSequence, Place, Places, Root, SequenceChild,
+    Sought, Step, is_sought,
 };
 
 /// What is offered at a place: one step, or two.
@@ -247,6 +248,8 @@ pub struct NegotiationPlaces;
 impl Places for NegotiationPlaces {
     ghost schema = { λ _. negotiation_schema };
 
+    ghost keeps_sequences = { λ _. false };
+
     fn alternatives(&self, place: Place) -> u16 {
         row_at(place).count()
     }
@@ -272,6 +275,14 @@ impl Places for NegotiationPlaces {
 
     fn datatype(&self, kind: u16) -> Option<Datatype> {
         negotiation().datatype(kind)
+    }
+
+    fn sequence(&self, _kind: u16) -> &[SequenceChild] {
+        &[]
+    }
+
+    fn optional_sequence(&self, _kind: u16) -> Option<&OptionalSequence> {
+        None
     }
 
     fn root_width(&self) -> u32 {

@@ -10,8 +10,8 @@ use exi_documents::Refusal;
 use exi_schema::Places;
 use message_fields::message_parts::exi_events::EventWriter;
 use message_fields::message_parts::{
-    Choice, Descent, OptionalSecond, PutChoice, PutRecord, ReadRecord, Record, member,
-    put_optional_value, put_record, put_value, whole_record,
+    Choice, Descent, OptionalChildren, OptionalSecond, PutChoice, PutRecord, ReadRecord, Record,
+    member, optional_children, put_optional_value, put_record, put_value, whole_record,
 };
 use message_fields::{Elements2, Elements4, OptionalValue, RequiredValue};
 
@@ -41,6 +41,18 @@ impl PutRecord for PhysicalValue {
     ghost given = { λ v. [] };
 
     ghost parts = { physical_value_parts };
+
+    #[inline(always)]
+    fn optional_values(&self) -> Option<OptionalChildren> {
+        optional_children(
+            names::MULTIPLIER,
+            &self.multiplier,
+            names::UNIT,
+            &self.unit,
+            names::VALUE,
+            &self.value,
+        )
+    }
 
     fn write<P: Places>(&self, writer: &mut EventWriter<'_, '_, P>) {
         put_value(writer, names::MULTIPLIER, &self.multiplier);

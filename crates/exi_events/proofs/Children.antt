@@ -13,7 +13,7 @@ use Rattle.exi_schema.specs.Plain.{PlainKind}
 use Rattle.exi_schema.specs.Schemas.{PlainSchema}
 use Rattle.exi_schema.specs.Steps.{simple_at, IsSought}
 use Rattle.exi_writing.specs.Documents.{SpellsStep, element, first}
-use Rattle.exi_writing.specs.Grammar.{Opened, opened, Inside, State, around, stands}
+use Rattle.exi_writing.specs.Grammar.{Opened, opened, Inside, around, stands}
 use Rattle.exi_writing.specs.Trees.{Value, Start, EndElement}
 use Rattle.exi_writing.specs.Short.{tree_of}
 use Rattle.exi_writing.specs.Values.{Entries}
@@ -27,7 +27,7 @@ use Rattle.exi_events.specs.declared.reader.Phase.TheVariants as phase
 use Rattle.exi_events.specs.Open.{opened_of}
 use Rattle.exi_events.specs.Inside.{AreOpen, HasTop, GoesTo}
 use Rattle.exi_events.specs.Reader.{IsSound, IsReadyAt, state_of}
-use Rattle.exi_events.specs.Child.{StartsChild, WritesInside, WritesThree, IsNamed, child_bits, PutsChild, PutsThree}
+use Rattle.exi_events.specs.Child.{StartsChild, WritesInside, WritesThree, IsNamed, child_bits, inside_bits, PutsChild, PutsThree}
 use Rattle.exi_events.specs.declared.child.NamedValue.{NamedValue}
 use Rattle.exi_events.specs.declared.child.ThreeChildren.{ThreeChildren}
 use Rattle.exi_events.specs.Writer.{Draft, Adds, IsPut}
@@ -77,6 +77,15 @@ module _ (s : PlainSchema) (old new : Draft) (top : Opened) (above : List Opened
         );
       }
 
+-- those of a child of a sequence, which is the innermost element
+pub named_put : (s : PlainSchema) (from to : Draft) (top : Opened) (above : List Opened) (there : Place) (entries : Entries) (child : SequenceChild) (named : NamedValue) (code bits : List Bool) (kind : ℕ) →
+    from.state ≡ stands (Inside top above) entries → to.state ≡ stands (Inside (opened top.name there) above) entries → Adds from to (code ++ inside_bits bits) →
+    SpellsStep s.kinds top.place (element child.name kind there) code → simple_at s.kinds kind ≡ Some child.datatype → IsNamed child named bits → PutsChild s from to named.name (tree_of named.value)
+named_put s from to top above there entries child named code bits kind was is adds starts simple w =
+    subst (λ (n : ℕ). PutsChild s from to n (tree_of named.value)) w.name_is
+    (child_put s from to top above there entries child.name kind (tree_of named.value) code (inside_bits bits) was is adds starts
+    (record { datatype = child.datatype; is_simple = simple; inside = bits; spelled = w.writes entries child.name; bits_are = refl }))
+
 -- more is written, and other elements are open
 pub ready_on : (s t : PlainSchema) (p q : Phase) (elements moved : List Opened) (bits more new_bits : List Bool) (table new_table : Table SpanAt) → t ≡ s → p ≡ phase.Inside → q ≡ p → new_bits ≡ bits ++ more → new_table ≡ table →
     IsReadyAt s p elements bits table → AreOpen s.kinds moved → IsReadyAt t q moved new_bits new_table
@@ -123,10 +132,7 @@ module _ (s : PlainSchema) (old new : Draft) (top : Opened) (above : List Opened
   one_put : (from to : Draft) (here there : Place) (child : SequenceChild) (named : NamedValue) (bits : List Bool) (k : ℕ) → from.state ≡ stands (Inside (opened name here) (opened top.name next ∷ above)) entries → to.state ≡ stands (Inside (opened name there) (opened top.name next ∷ above)) entries →
       Adds from to (child_bits bits) → offers s.kinds here ≡ element child.name k there ∷ [] → simple_at s.kinds k ≡ Some child.datatype → IsNamed child named bits → PutsChild s from to named.name (tree_of named.value)
   one_put from to here there child named bits k was is adds offers_it simple w =
-      subst (λ (n : ℕ). PutsChild s from to n (tree_of named.value)) w.name_is
-      (child_put s from to (opened name here) (opened top.name next ∷ above) there entries child.name k (tree_of named.value) (number_bits 1 0) (number_bits 1 0 ++ (bits ++ number_bits 1 0)) was is adds
-      (one_code s.kinds here (element child.name k there) offers_it)
-      (record { datatype = child.datatype; is_simple = simple; inside = bits; spelled = w.writes entries child.name; bits_are = refl }))
+      named_put s from to (opened name here) (opened top.name next ∷ above) there entries child named (number_bits 1 0) bits k was is adds (one_code s.kinds here (element child.name k there) offers_it) simple w
 
   pub three_put : old.state ≡ stands (Inside top above) entries → new.state ≡ stands (Inside (opened top.name next) above) entries → Adds old new (code ++ inside) →
       SpellsStep s.kinds top.place (element name kind next) code → WritesThree s.kinds kind values inside → PutsThree s old new name values

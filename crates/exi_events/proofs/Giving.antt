@@ -27,7 +27,7 @@ place_of here [] = here
 place_of here (top ∷ above) = top.place
 
 module _ (kinds : List PlainKind) (top : Opened) (held : OpenElement) where
-  same_place : (elements above : List Opened) → elements ≡ top ∷ above → HasTop elements held → top.place ≡ held.place
+  pub same_place : (elements above : List Opened) → elements ≡ top ∷ above → HasTop elements held → top.place ≡ held.place
   same_place elements above is has = ap (place_of held.place) (sym is ∙ has.1)
 
   pub start_at : (name : ℕ) (elements above : List Opened) → elements ≡ top ∷ above → HasTop elements held → OffersStart kinds top.place name → OffersStart kinds held.place name

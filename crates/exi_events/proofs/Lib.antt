@@ -33,3 +33,6 @@ pub mod Taking
 pub mod Lengths
 pub mod Giving
 pub mod Shorts
+pub mod Fitting
+pub mod OptionalPut
+pub mod OptionalHeld

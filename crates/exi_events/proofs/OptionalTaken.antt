@@ -1,6 +1,7 @@
 -- The children of a sequence of which the second may be absent.
-use Rattle.std.proofs.Common.{◌≡◌, ℕ, zero, suc, ◌≤◌, ◌^◌, ◌∙◌, List, [], ◌∷◌, Bool, false, Some, None, Option, refl, sym, ap, subst, eqb, not, ◌&&◌, arith, length}
-use Rattle.std.specs.Prelude.{slice_get}
+use Rattle.std.proofs.Common.{◌≡◌, ℕ, zero, suc, ◌≤◌, ◌^◌, ◌∙◌, List, [], ◌∷◌, Bool, Some, None, Option, refl, sym, ap, subst, arith, length}
+use Rattle.std.specs.Prelude.{slice_get, option_copied}
+use Rattle.std.specs.Borrow.{Bor}
 use Rattle.exi_spec.specs.Items.{SpellsNumber}
 use Rattle.exi_bits.specs.Reading.{Cursor, Takes}
 use Rattle.exi_bits.specs.declared.span.SpanAt.{SpanAt}
@@ -12,21 +13,18 @@ use Rattle.exi_schema.specs.Offers.{offers, IsWidth}
 use Rattle.exi_schema.specs.Plain.{PlainKind}
 use Rattle.exi_schema.specs.Schemas.{PlainSchema}
 use Rattle.exi_schema.specs.Sequences.{IsOptionalSequence}
-use Rattle.exi_writing.specs.Documents.{SpellsStep, element}
-use Rattle.exi_writing.specs.Grammar.{Opened}
+use Rattle.exi_writing.specs.Documents.{SpellsStep, element, first}
+use Rattle.exi_writing.specs.Grammar.{Opened, opened}
 use Rattle.exi_writing.specs.Trees.{Event as TreeEvent, Value as TreeValue, EndElement}
 use Rattle.exi_writing.specs.Short.{tree_of}
 use Rattle.exi_writing.specs.ShortValue.{ShortValue}
-use Rattle.exi_events.specs.declared.open.OpenElement.{OpenElement}
 use Rattle.exi_events.specs.declared.optional.OptionalValues.{OptionalValues}
 use Rattle.exi_events.specs.declared.reader.Phase.{Phase}
 use Rattle.exi_events.specs.declared.reader.Phase.TheVariants as phase
-use Rattle.exi_events.specs.Inside.{HasTop}
-use Rattle.exi_events.specs.Open.{opened_of}
 use Rattle.exi_events.specs.Reader.{state_of, HasTold, Reading, reading}
-use Rattle.exi_events.specs.Sequence.{TakesChild, TakesSequence, OffersChild, inside_at, behind_all}
+use Rattle.exi_events.specs.Sequence.{TakesChild, OffersChild, inside_at, behind_all}
 use Rattle.exi_events.specs.Optional.{GoesOn, TakesRest, TakesOptional, HoldsOptional}
-use Rattle.exi_events.proofs.Sequences.{child_told, told_child, same_child, end_took, same_place}
+use Rattle.exi_events.proofs.Sequences.{child_told, told_child, same_child, end_took}
 
 -- ---- a code of two bits
 
@@ -35,7 +33,7 @@ two_bits zero enough = absurd (omega (arith, enough))
 two_bits (suc zero) enough = absurd (omega (arith, enough))
 two_bits (suc (suc w)) enough = omega (arith)
 
-two_wide : IsWidth 2 2
+pub two_wide : IsWidth 2 2
 two_wide = record { enough = omega (arith); least = λ w enough. two_bits w enough }
 
 pub of_two : (kinds : List PlainKind) (here : Place) (a b step : Step) (old new : Cursor) (code : ℕ) → offers kinds here ≡ a ∷ b ∷ [] → slice_get (a ∷ b ∷ []) code ≡ Some step →
@@ -171,18 +169,17 @@ module _ (s : PlainSchema) (p : Phase) (elements : List Opened) (second : ℕ) (
       let all : P phase.Inside elements popped moved second = subst (λ b. P phase.Inside elements popped b second) (sym same) two in
       subst (λ q. P q elements popped moved second) (sym is) all
 
-pub holds_optional : (s : PlainSchema) (elements : List Opened) (top : OpenElement) (q first_place : Place) (second : ℕ) (children : OptionalSequence) (ne : Bool) → HasTop elements top →
-    ne ≡ not (eqb top.place.kind q.kind && (eqb top.place.particle q.particle && (eqb top.place.copies q.copies && eqb top.place.attributes q.attributes))) → ne ≡ false → q ≡ first_place →
-    IsOptionalSequence s.kinds first_place children → children.second.name ≡ second → (children.third.name ≡ second → ⊥) → HoldsOptional s elements second children
-holds_optional s elements top q first_place second children ne has tested is begins sequence named other =
-    record {
-      top = opened_of top;
-      above = has.0;
-      elements_are = has.1;
-      sequence = subst (λ (p : Place). IsOptionalSequence s.kinds p children) (sym (same_place top.place q (sym is ∙ tested) ∙ begins)) sequence;
-      named = named;
-      other = other;
-    }
+pub holds_optional : (s : PlainSchema) (elements : List Opened) (kind second : ℕ) (children : OptionalSequence) (it : (name : ℕ) × (above : List Opened) × (elements ≡ opened name (first kind) ∷ above)) →
+    IsOptionalSequence s.kinds (first kind) children → children.second.name ≡ second → (children.third.name ≡ second → ⊥) → HoldsOptional s elements second children
+holds_optional s elements kind second children it sequence named other =
+    record { top = opened it.0 (first kind); above = it.1; elements_are = it.2; sequence = sequence; named = named; other = other }
+
+-- what is kept of a sequence
+pub kept_optional : (told : Option (Bor OptionalSequence)) (it : Bor OptionalSequence) (all : OptionalSequence) → option_copied told ≡ Some all → told ≡ Some it → it.now ≡ all
+kept_optional told it all keeps is = let both : Some it.now ≡ Some all = sym (ap option_copied is) ∙ keeps in cc
+
+pub none_kept : (told : Option (Bor OptionalSequence)) (all : OptionalSequence) → told ≡ None → option_copied told ≡ Some all → ⊥
+none_kept told all is keeps = let wrong : None ≡ Some all = sym (ap option_copied is) ∙ keeps in cc
 
 -- the same bits lend the same texts
 pub rest_at : (s : PlainSchema) (name : ℕ) (here : Place) (above : List Opened) (entries : List (ℕ × SpanAt)) (a b : List Bool) → a ≡ b → (old new : Cursor) (second : ℕ) (value : Option ShortValue) (third : TreeValue) →

@@ -1,5 +1,5 @@
 -- The children of a sequence, one behind the other, and the end of their element.
-use Rattle.std.proofs.Common.{◌≡◌, ℕ, ◌≤◌, ◌<◌, eqb, Bool, true, false, not, ◌&&◌, List, [], ◌∷◌, length, get_or, Some, refl, sym, ap, subst, ◌∙◌, inl, inr, arith}
+use Rattle.std.proofs.Common.{◌≡◌, ℕ, ◌≤◌, ◌<◌, eqb, Bool, true, false, not, ◌&&◌, List, [], ◌∷◌, length, get_or, Option, Some, None, refl, sym, ap, subst, ◌∙◌, inl, inr, arith}
 use Rattle.std.proofs.lemmas.Bool.Decides.{eqb_tells}
 use Rattle.exi_bits.specs.Reading.{Cursor, Takes}
 use Rattle.exi_bits.specs.declared.span.SpanAt.{SpanAt}
@@ -27,9 +27,8 @@ use Rattle.exi_events.specs.declared.open.OpenElement.{OpenElement}
 use Rattle.exi_events.specs.declared.reader.Phase.{Phase}
 use Rattle.exi_events.specs.declared.reader.Phase.TheVariants as phase
 use Rattle.exi_events.specs.Inside.{AreOpen, HasTop}
-use Rattle.exi_events.specs.Open.{opened_of}
-use Rattle.exi_events.specs.Reader.{state_of, IsNext, HasTold, Reading, reading}
-use Rattle.exi_events.specs.Sequence.{TakesChild, TakesEnd, TakesSequence, OffersChild, HoldsSequence, inside_at, behind_all}
+use Rattle.exi_events.specs.Reader.{state_of, standing_of, innermost_place, IsNext, HasTold, Reading, reading}
+use Rattle.exi_events.specs.Sequence.{TakesChild, TakesEnd, TakesSequence, OffersChild, HoldsSequence, HoldsThree, inside_at, behind_all}
 use Rattle.exi_events.proofs.Told.{told_more}
 use Rattle.exi_events.proofs.Valued.{whole_taken}
 use Rattle.exi_events.proofs.Whole.{behind_value, whole_took}
@@ -176,6 +175,21 @@ eqb_is a b t =
       | inr h ↦ let wrong : false ≡ true = sym h.0 ∙ t in absurd cc
     ]
 
+all_same : (p q : Place) → p ≡ q → (eqb p.kind q.kind && (eqb p.particle q.particle && (eqb p.copies q.copies && eqb p.attributes q.attributes))) ≡ true
+all_same p q same =
+    subst (λ (x : Place). (eqb p.kind x.kind && (eqb p.particle x.particle && (eqb p.copies x.copies && eqb p.attributes x.attributes))) ≡ true) same
+    (and-both _ _ (eqb_same p.kind) (and-both _ _ (eqb_same p.particle) (and-both _ _ (eqb_same p.copies) (eqb_same p.attributes))))
+  where
+    and-both : (a b : Bool) → a ≡ true → b ≡ true → (a && b) ≡ true
+    and-both a b one two = rw one two
+
+    eqb_same : (a : ℕ) → eqb a a ≡ true
+    eqb_same a =
+        elim (eqb_tells a a) [
+          | inl h ↦ h.0
+          | inr h ↦ absurd (h.1 refl)
+        ]
+
 not_false : (x : Bool) → false ≡ not x → x ≡ true
 not_false true is = refl
 not_false false is = absurd cc
@@ -205,13 +219,35 @@ three_in (a ∷ b ∷ []) d more less = absurd (omega (arith, more))
 three_in (a ∷ b ∷ c ∷ []) d more less = refl
 three_in (a ∷ b ∷ c ∷ e ∷ l) d more less = absurd (omega (arith, less))
 
-pub holds_sequence : (s : PlainSchema) (elements : List Opened) (top : OpenElement) (q first_place : Place) (l : List SequenceChild) (ne : Bool) → HasTop elements top →
-    ne ≡ not (eqb top.place.kind q.kind && (eqb top.place.particle q.particle && (eqb top.place.copies q.copies && eqb top.place.attributes q.attributes))) → ne ≡ false → q ≡ first_place →
-    TellsSequence s.kinds first_place l → HoldsSequence s elements l
-holds_sequence s elements top q first_place l ne has tested is begins tells =
-    record {
-      top = opened_of top;
-      above = has.0;
-      elements_are = has.1;
-      tells = subst (λ (p : Place). TellsSequence s.kinds p l) (sym (same_place top.place q (sym is ∙ tested) ∙ begins)) tells;
-    }
+-- an element of which nothing is taken
+module _ (elements : List Opened) (top : OpenElement) (q : Place) (ne : Bool) (has : HasTop elements top) (begins : q ≡ first top.place.kind)
+    (tested : ne ≡ not (eqb top.place.kind q.kind && (eqb top.place.particle q.particle && (eqb top.place.copies q.copies && eqb top.place.attributes q.attributes)))) where
+  pub begun : ne ≡ false → (name : ℕ) × (above : List Opened) × (elements ≡ opened name (first top.place.kind) ∷ above)
+  begun is = (top.name, has.0, has.1 ∙ ap (λ (p : Place). opened top.name p ∷ has.0) (same_place top.place q (sym is ∙ tested) ∙ begins))
+
+  pub not_begun : (p : Phase) (name kind : ℕ) (above : List Opened) → ne ≡ true → p ≡ phase.Inside → standing_of p elements ≡ Inside (opened name (first kind)) above → ⊥
+  not_begun p name kind above is inside at =
+      let same : Some top.place ≡ Some (first kind) = sym (ap innermost_place (ap (λ (x : Phase). standing_of x elements) inside ∙ ap (λ (es : List Opened). around es) has.1)) ∙ ap innermost_place at in
+      let place_is : top.place ≡ first kind = cc in
+      let there : top.place ≡ q = place_is ∙ ap (λ (p : Place). first p.kind) (sym place_is) ∙ sym begins in
+      let wrong : true ≡ false = sym is ∙ tested ∙ ap not (all_same top.place q there) in
+      absurd cc
+
+pub same_begun : (p : Phase) (elements : List Opened) (kind : ℕ) (it : (name : ℕ) × (above : List Opened) × (elements ≡ opened name (first kind) ∷ above)) → p ≡ phase.Inside →
+    (name k : ℕ) (above : List Opened) → standing_of p elements ≡ Inside (opened name (first k)) above → k ≡ kind
+same_begun p elements kind it inside name k above at =
+    let same : Some (first kind) ≡ Some (first k) = sym (ap innermost_place (ap (λ (x : Phase). standing_of x elements) inside ∙ ap (λ (es : List Opened). around es) it.2)) ∙ ap innermost_place at in
+    ap (λ (o : Option Place). kind_in o) (sym same)
+  where
+    kind_in : Option Place → ℕ
+    kind_in None = 0
+    kind_in (Some p) = p.kind
+
+pub holds_sequence : (s : PlainSchema) (elements : List Opened) (kind : ℕ) (l : List SequenceChild) (it : (name : ℕ) × (above : List Opened) × (elements ≡ opened name (first kind) ∷ above)) → TellsSequence s.kinds (first kind) l → HoldsSequence s elements l
+holds_sequence s elements kind l it tells = record { top = opened it.0 (first kind); above = it.1; elements_are = it.2; tells = tells }
+
+-- what is kept of a sequence is what holds three
+pub kept_three : (told children : List SequenceChild) (cursor : Cursor) → (length children ≤ 8 → told ≡ children) → HoldsThree children cursor → HoldsThree told cursor
+kept_three told children cursor keeps h =
+    let few : length children ≤ 8 = omega (arith, ap length h.children_are) in
+    subst (λ (l : List SequenceChild). HoldsThree l cursor) (sym (keeps few)) h

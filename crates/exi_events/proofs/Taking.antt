@@ -1,5 +1,5 @@
 -- What a window holds of a sequence is taken from it.
-use Rattle.std.proofs.Common.{◌≡◌, ℕ, ◌<◌, ◌≤◌, Bool, List, [], ◌∷◌, ◌++◌, length, get_or, refl, sym, ap, subst, ◌∙◌, arith, append_assoc, inl, inr, ◌⊎◌}
+use Rattle.std.proofs.Common.{◌≡◌, ℕ, ◌+◌, ◌^◌, ◌<◌, ◌≤◌, Bool, List, [], ◌∷◌, ◌++◌, length, get_or, refl, sym, ap, subst, ◌∙◌, arith, append_assoc, inl, inr, ◌⊎◌}
 use Rattle.std.proofs.lemmas.List.{length-append, append-nil, append_cancel_left, length-drop}
 use Rattle.exi_spec.specs.Bits.{number_bits}
 use Rattle.exi_spec.specs.Items.{SpellsNumber}
@@ -12,14 +12,11 @@ use Rattle.document_laws.proofs.TextValues.{value_exact}
 use Rattle.exi_writing.specs.Short.{SpellsShort, most_bits}
 use Rattle.exi_writing.specs.Trees.{Value}
 use Rattle.exi_writing.specs.Values.{SpellsValue}
-use Rattle.exi_events.specs.Child.{child_bits}
+use Rattle.exi_events.specs.Child.{child_bits, inside_bits}
 use Rattle.exi_events.specs.Sequence.{HoldsFront, HoldsThree, SpellsChild}
 
-abbrev zero_bit : List Bool
+abbrev pub zero_bit : List Bool
 zero_bit = number_bits 1 0
-
-zero_spelled : SpellsNumber 1 0 zero_bit
-zero_spelled = record { range = omega arith; spelled = refl }
 
 -- behind the bits that were passed stand the others
 went_on : (front behind rest passed : List Bool) (old new : Window) → HoldsOn old new → Passes old.cursor new.cursor passed → passed ≡ front → HoldsFront (front ++ behind) rest old → HoldsFront behind rest new
@@ -30,20 +27,25 @@ went_on front behind rest passed old new on passes is h =
       there = append_cancel_left front (ahead new.cursor) (behind ++ rest) (sym (passes.there ∙ ap (λ (l : List Bool). l ++ ahead new.cursor) is) ∙ h.there ∙ append_assoc front behind rest);
     }
 
--- ---- a code of one bit
+-- ---- a code
 
-pub code_held : (behind rest : List Bool) (window : Window) → HoldsFront (zero_bit ++ behind) rest window → 1 ≤ window.held
-code_held behind rest window h = omega (arith, h.within, length-append zero_bit behind, length-number_bits 1 0)
+module _ (n v : ℕ) (range : v < 2 ^ n) where
+  number_spelled : SpellsNumber n v (number_bits n v)
+  number_spelled = record { range = range; spelled = refl }
 
-pub code_is : (code : ℕ) (behind rest : List Bool) (old new : Window) → Takes (SpellsNumber 1 code) old.cursor new.cursor → HoldsFront (zero_bit ++ behind) rest old → code ≡ 0
-code_is code behind rest old new t h =
-    let same = (exact _ _ _ (numbers_read 1)).prefix code 0 t.0 zero_bit (ahead new.cursor) (behind ++ rest) t.1 zero_spelled (sym t.2.there ∙ h.there ∙ append_assoc zero_bit behind rest) in
-    same.1
+  number_once : (code : ℕ) (behind rest : List Bool) (old new : Window) (t : Takes (SpellsNumber n code) old.cursor new.cursor) → HoldsFront (number_bits n v ++ behind) rest old → (t.0 ≡ number_bits n v) × (code ≡ v)
+  number_once code behind rest old new t h =
+      let same = (exact _ _ _ (numbers_read n)).prefix code v t.0 (number_bits n v) (ahead new.cursor) (behind ++ rest) t.1 number_spelled (sym t.2.there ∙ h.there ∙ append_assoc (number_bits n v) behind rest) in
+      (same.0, same.1)
 
-pub code_behind : (code : ℕ) (behind rest : List Bool) (old new : Window) → HoldsOn old new → Takes (SpellsNumber 1 code) old.cursor new.cursor → HoldsFront (zero_bit ++ behind) rest old → HoldsFront behind rest new
-code_behind code behind rest old new on t h =
-    let same = (exact _ _ _ (numbers_read 1)).prefix code 0 t.0 zero_bit (ahead new.cursor) (behind ++ rest) t.1 zero_spelled (sym t.2.there ∙ h.there ∙ append_assoc zero_bit behind rest) in
-    went_on zero_bit behind rest t.0 old new on t.2 same.0 h
+  pub code_held : (behind rest : List Bool) (window : Window) → HoldsFront (number_bits n v ++ behind) rest window → n ≤ window.held
+  code_held behind rest window h = omega (arith, h.within, length-append (number_bits n v) behind, length-number_bits n v)
+
+  pub code_is : (code : ℕ) (behind rest : List Bool) (old new : Window) → Takes (SpellsNumber n code) old.cursor new.cursor → HoldsFront (number_bits n v ++ behind) rest old → code ≡ v
+  code_is code behind rest old new t h = (number_once code behind rest old new t h).1
+
+  pub code_behind : (code : ℕ) (behind rest : List Bool) (old new : Window) → HoldsOn old new → Takes (SpellsNumber n code) old.cursor new.cursor → HoldsFront (number_bits n v ++ behind) rest old → HoldsFront behind rest new
+  code_behind code behind rest old new on t h = went_on (number_bits n v) behind rest t.0 old new on t.2 (number_once code behind rest old new t h).0 h
 
 -- ---- a value
 
@@ -66,6 +68,15 @@ value_behind d value taken inside behind rest old new s on t h =
 
 -- ---- a child
 
+-- the bits of one that has started, piece by piece
+pub started_opened : (inside behind rest bits : List Bool) (window : Window) → bits ≡ inside_bits inside → HoldsFront (bits ++ behind) rest window → HoldsFront (zero_bit ++ (inside ++ (zero_bit ++ behind))) rest window
+started_opened inside behind rest bits window is h =
+    let pieces : bits ++ behind ≡ zero_bit ++ (inside ++ (zero_bit ++ behind)) =
+    ap (λ (l : List Bool). l ++ behind) is
+    ∙ append_assoc zero_bit (inside ++ zero_bit) behind
+    ∙ ap (λ (l : List Bool). zero_bit ++ l) (append_assoc inside zero_bit behind) in
+    subst (λ (l : List Bool). HoldsFront l rest window) pieces h
+
 -- its bits, piece by piece
 pub child_opened : (inside behind rest bits : List Bool) (window : Window) → bits ≡ child_bits inside → HoldsFront (bits ++ behind) rest window → HoldsFront (zero_bit ++ (zero_bit ++ (inside ++ (zero_bit ++ behind)))) rest window
 child_opened inside behind rest bits window is h =
@@ -75,29 +86,38 @@ child_opened inside behind rest bits window is h =
     ∙ ap (λ (l : List Bool). zero_bit ++ l) (append_assoc zero_bit (inside ++ zero_bit) behind ∙ ap (λ (l : List Bool). zero_bit ++ l) (append_assoc inside zero_bit behind)) in
     subst (λ (l : List Bool). HoldsFront l rest window) pieces h
 
--- ---- three children
+-- ---- bits that stand at the front
 
--- what a window of the next bits holds
-pub three_held : (children : List SequenceChild) (cursor : Cursor) (window : Window) (h : HoldsThree children cursor) → window.cursor ≡ cursor → HoldsNext window →
-    HoldsFront (h.one_bits ++ (h.two_bits ++ (h.three_bits ++ zero_bit))) h.rest window
-three_held children cursor window h is next =
-    let front = h.one_bits ++ (h.two_bits ++ (h.three_bits ++ zero_bit)) in
-    let there : ahead window.cursor ≡ front ++ h.rest = ap ahead is ∙ h.there in
-    let long : length front ≤ 57 = omega (arith, h.few, length-append h.one_bits (h.two_bits ++ (h.three_bits ++ zero_bit)), length-append h.two_bits (h.three_bits ++ zero_bit), length-append h.three_bits zero_bit, length-number_bits 1 0) in
+pub front_held : (front rest : List Bool) (cursor : Cursor) (window : Window) → ahead cursor ≡ front ++ rest → length front ≤ 57 → window.cursor ≡ cursor → HoldsNext window → HoldsFront front rest window
+front_held front rest cursor window at long is next =
+    let there : ahead window.cursor ≡ front ++ rest = ap ahead is ∙ at in
     record {
       within = elim next [
         | inl many ↦ omega (arith, many, long)
-        | inr all ↦ omega (arith, all, ap length there, length-append front h.rest, length-drop window.cursor.place window.cursor.bits)
+        | inr all ↦ omega (arith, all, ap length there, length-append front rest, length-drop window.cursor.place window.cursor.bits)
       ];
       there = there;
     }
 
 -- the bits that are left are some
+pub front_left : (front rest : List Bool) (cursor : Cursor) → ahead cursor ≡ front ++ rest → 1 ≤ length front → 64 ≤ length cursor.bits → (length cursor.bits < 64) ⊎ (cursor.place ≡ length cursor.bits) → ⊥
+front_left front rest cursor at some whole (inl few) = omega (arith, few, whole)
+front_left front rest cursor at some whole (inr end) = omega (arith, end, some, ap length at, length-append front rest, length-drop cursor.place cursor.bits)
+
+-- ---- three children
+
+three_long : (a b c : List Bool) → length (a ++ (b ++ (c ++ zero_bit))) ≡ length a + (length b + (length c + 1))
+three_long a b c = omega (arith, length-append a (b ++ (c ++ zero_bit)), length-append b (c ++ zero_bit), length-append c zero_bit, length-number_bits 1 0)
+
+-- what a window of the next bits holds
+pub three_held : (children : List SequenceChild) (cursor : Cursor) (window : Window) (h : HoldsThree children cursor) → window.cursor ≡ cursor → HoldsNext window →
+    HoldsFront (h.one_bits ++ (h.two_bits ++ (h.three_bits ++ zero_bit))) h.rest window
+three_held children cursor window h is next =
+    front_held (h.one_bits ++ (h.two_bits ++ (h.three_bits ++ zero_bit))) h.rest cursor window h.there (omega (arith, h.few, three_long h.one_bits h.two_bits h.three_bits)) is next
+
 pub three_left : (children : List SequenceChild) (cursor : Cursor) → HoldsThree children cursor → (length cursor.bits < 64) ⊎ (cursor.place ≡ length cursor.bits) → ⊥
-three_left children cursor h (inl few) = omega (arith, few, h.whole_word)
-three_left children cursor h (inr end) =
-    let front = h.one_bits ++ (h.two_bits ++ (h.three_bits ++ zero_bit)) in
-    omega (arith, end, ap length h.there, length-append front h.rest, length-append h.one_bits (h.two_bits ++ (h.three_bits ++ zero_bit)), length-append h.two_bits (h.three_bits ++ zero_bit), length-append h.three_bits zero_bit, length-number_bits 1 0, length-drop cursor.place cursor.bits)
+three_left children cursor h none =
+    front_left (h.one_bits ++ (h.two_bits ++ (h.three_bits ++ zero_bit))) h.rest cursor h.there (omega (arith, three_long h.one_bits h.two_bits h.three_bits)) h.whole_word none
 
 -- the children are those that are told
 pub three_are : (children : List SequenceChild) (a b c : SequenceChild) (cursor : Cursor) (h : HoldsThree children cursor) → children ≡ a ∷ b ∷ c ∷ [] → SpellsChild a h.one_bits × SpellsChild b h.two_bits × SpellsChild c h.three_bits

@@ -1,5 +1,5 @@
 -- Bits that are written at once, as a number.
-use Rattle.std.proofs.Common.{◌≡◌, ℕ, zero, suc, ◌+◌, ◌-◌, ◌*◌, ◌/◌, ◌%◌, ◌^◌, ◌<◌, ◌≤◌, Bool, true, false, ltb, eqb, List, [], ◌∷◌, ◌++◌, length, Option, Some, None, OnSome, Result, Ok, Err, OnOk, refl, sym, ap, subst, ◌∙◌, arith, append_assoc, ◌↔◌, ℤ, pos, negsuc, if◌then◌else◌}
+use Rattle.std.proofs.Common.{◌≡◌, ℕ, suc, ◌+◌, ◌-◌, ◌*◌, ◌/◌, ◌%◌, ◌^◌, ◌<◌, ◌≤◌, Bool, true, false, ltb, List, [], ◌∷◌, ◌++◌, length, Option, Some, None, OnSome, Result, Ok, Err, OnOk, refl, sym, ap, subst, ◌∙◌, arith, append_assoc, ◌↔◌, ℤ, pos, negsuc, if◌then◌else◌}
 use Rattle.std.specs.Result.{IsErr}
 use Rattle.std.proofs.lemmas.Bool.{le-ltb}
 use Rattle.std.proofs.lemmas.List.{length-append}
@@ -150,6 +150,9 @@ bool_writes d v truth is v_is entries name =
 
 -- ---- pieces behind one another
 
+pub code_pushed : (old new : List Bool) (n a b : ℕ) → new ≡ old ++ number_bits n a → a ≡ b → new ≡ old ++ number_bits n b
+code_pushed old new n a b is same = is ∙ ap (λ (k : ℕ). old ++ number_bits n k) same
+
 pub three_joined : (w0 w1 w2 w3 w4 w5 code a b c end : List Bool) → w0 ≡ [] → w1 ≡ w0 ++ code → w2 ≡ w1 ++ a → w3 ≡ w2 ++ b → w4 ≡ w3 ++ c → w5 ≡ w4 ++ end → w5 ≡ code ++ (a ++ (b ++ (c ++ end)))
 three_joined w0 w1 w2 w3 w4 w5 code a b c end none is1 is2 is3 is4 is5 =
     let one : w1 ≡ code = is1 ∙ ap (λ (l : List Bool). l ++ code) none in
@@ -160,6 +163,16 @@ three_joined w0 w1 w2 w3 w4 w5 code a b c end none is1 is2 is3 is4 is5 =
     ∙ ap (λ (l : List Bool). l ++ end) four
     ∙ append_assoc code ((a ++ b) ++ c) end
     ∙ ap (λ (l : List Bool). code ++ l) (append_assoc (a ++ b) c end ∙ append_assoc a b (c ++ end))
+
+pub two_joined : (w0 w1 w2 w3 w4 code a b end : List Bool) → w0 ≡ [] → w1 ≡ w0 ++ code → w2 ≡ w1 ++ a → w3 ≡ w2 ++ b → w4 ≡ w3 ++ end → w4 ≡ code ++ (a ++ (b ++ end))
+two_joined w0 w1 w2 w3 w4 code a b end none is1 is2 is3 is4 =
+    let one : w1 ≡ code = is1 ∙ ap (λ (l : List Bool). l ++ code) none in
+    let two : w2 ≡ code ++ a = is2 ∙ ap (λ (l : List Bool). l ++ a) one in
+    let three : w3 ≡ code ++ (a ++ b) = is3 ∙ ap (λ (l : List Bool). l ++ b) two ∙ append_assoc code a b in
+    is4
+    ∙ ap (λ (l : List Bool). l ++ end) three
+    ∙ append_assoc code (a ++ b) end
+    ∙ ap (λ (l : List Bool). code ++ l) (append_assoc a b end)
 
 pub three_behind : (old code a b c end : List Bool) → old ++ (code ++ (a ++ (b ++ (c ++ end)))) ≡ ((((old ++ code) ++ a) ++ b) ++ c) ++ end
 three_behind old code a b c end =

@@ -8,9 +8,9 @@ use Rattle.exi_schema.specs.declared.places.SequenceChild.{SequenceChild}
 use Rattle.exi_schema.specs.Schemas.{PlainSchema}
 use Rattle.exi_schema.specs.Offers.{offers}
 use Rattle.exi_schema.specs.Plain.{PlainKind}
-use Rattle.exi_schema.specs.Sequences.{TellsSequence}
+use Rattle.exi_schema.specs.Sequences.{IsSequence, TellsSequence}
 use Rattle.exi_schema.specs.Steps.{simple_at}
-use Rattle.exi_writing.specs.Documents.{element}
+use Rattle.exi_writing.specs.Documents.{element, first}
 use Rattle.exi_writing.specs.Grammar.{Opened, Inside, opened, around, stands}
 use Rattle.exi_writing.specs.Trees.{Event as TreeEvent, Value as TreeValue, Start, EndElement}
 use Rattle.exi_writing.specs.Meaning.{texts_in}
@@ -64,6 +64,14 @@ pub record HoldsSequence (s : PlainSchema) (elements : List Opened) (children : 
   pub above : List Opened
   pub elements_are : elements ≡ top ∷ above
   pub tells : TellsSequence s.kinds top.place children
+
+-- the innermost element is a sequence of these children, and nothing of it is taken
+pub record AtSequence (r : Reading) (children : List SequenceChild) : Type 0 where
+  pub name : ℕ
+  pub kind : ℕ
+  pub above : List Opened
+  pub inside : r.state.standing ≡ Inside (opened name (first kind)) above
+  pub sequence : IsSequence r.schema.kinds (first kind) children
 
 -- ---- sequences that a window holds as a whole
 

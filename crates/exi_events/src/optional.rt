@@ -1,6 +1,7 @@
 //! The values of a sequence of which the second may be absent, and its end, taken at once where they have few bits.
 
-ghost use Rattle.std.specs.Prelude.{◌≡◌, ℕ, List, Some, None, IfSome};
+ghost use Rattle.std.specs.Prelude.{◌≡◌, ℕ, ◌++◌, Bool, List, Some, None, IfSome, OnSome};
+ghost use Rattle.exi_spec.specs.Bits.{number_bits};
 ghost use Rattle.exi_bits.specs.Reading.{Cursor, Takes};
 ghost use Rattle.exi_bits.specs.declared.span.SpanAt.{SpanAt};
 ghost use Rattle.exi_schema.specs.declared.places.Place.{Place as SchemaPlace};
@@ -10,8 +11,8 @@ ghost use Rattle.exi_schema.specs.Steps.{simple_at};
 ghost use Rattle.exi_writing.specs.Documents.{SpellsStep, element};
 ghost use Rattle.exi_writing.specs.Grammar.{Opened};
 ghost use Rattle.exi_writing.specs.Short.{tree_of};
-ghost use Rattle.exi_events.specs.Sequence.{TakesChild, inside_at, behind_all};
-ghost use Rattle.exi_events.specs.Optional.{GoesOn, TakesRest, TakesOptional};
+ghost use Rattle.exi_events.specs.Sequence.{HoldsFront, TakesChild, inside_at, behind_all};
+ghost use Rattle.exi_events.specs.Optional.{GoesOn, HoldsTwoOrThree, SpellsRest, SpellsStarted, TakesRest, TakesOptional};
 
 use crate::sequence::{short_child, short_only};
 use exi_schema::{OptionalSequence, SequenceChild};
@@ -41,6 +42,8 @@ fn short_inside(window: &mut BitWindow, child: SequenceChild) -> Option<ShortVal
     ensures child { (s : PlainSchema) (name kind : ℕ) (here next : SchemaPlace) (above : List Opened) (entries : List (ℕ × SpanAt)) (begun : Cursor) → simple_at s.kinds kind ≡ Some child.datatype
         → Takes (SpellsStep s.kinds here (element child.name kind next)) begun window.old.cursor
         → IfSome result (λ v. TakesChild (inside_at s name here above window.old.cursor.bits entries begun) (inside_at s name next above window.old.cursor.bits entries window.new.cursor) child.name (tree_of v)) }
+    ensures none { result ≡ None → (bits behind rest : List Bool) → SpellsStarted child bits → ¬ HoldsFront (bits ++ behind) rest window.old }
+    ensures behind { OnSome result ((bits behind rest : List Bool) → SpellsStarted child bits → HoldsFront (bits ++ behind) rest window.old → HoldsFront behind rest window.new) }
     ensures same { window.new.cursor.bits ≡ window.old.cursor.bits }
 {
     short_only(window)?;
@@ -55,6 +58,7 @@ fn take_rest(window: &mut BitWindow, children: &OptionalSequence) -> Option<Rest
     ensures rest { (s : PlainSchema) (name : ℕ) (here : SchemaPlace) (above : List Opened) (entries : List (ℕ × SpanAt)) → GoesOn s.kinds here children.now
         → IfSome result (λ rest. TakesRest (inside_at s name here above window.old.cursor.bits entries window.old.cursor) (behind_all s above window.old.cursor.bits entries window.new.cursor)
         children.now.second.name rest.second (tree_of rest.third)) }
+    ensures none { result ≡ None → (bits rest : List Bool) → SpellsRest children.now bits → ¬ HoldsFront (bits ++ number_bits 1 0) rest window.old }
     ensures same { window.new.cursor.bits ≡ window.old.cursor.bits }
 {
     let code = window.take_bits(2)?;
@@ -78,7 +82,8 @@ fn take_rest(window: &mut BitWindow, children: &OptionalSequence) -> Option<Rest
     })
 }
 
-/// Takes the children of such a sequence and the end of their element, where they have few bits and none is refused; else nothing.
+/// Takes the children of such a sequence and the end of their element, where they have few bits and none is refused; else nothing. What begins
+/// with such children is taken.
 #[inline(always)]
 pub(crate) fn take_optional(
     reader: &mut PayloadReader,
@@ -89,6 +94,7 @@ pub(crate) fn take_optional(
         → IfSome result (TakesOptional (inside_at s name here above reader.old.bits entries reader.old) (behind_all s above reader.old.bits entries reader.new) children.now.second.name) }
     ensures same { reader.new.bits ≡ reader.old.bits }
     ensures none { result ≡ None → reader.new ≡ reader.old }
+    ensures whole { result ≡ None → ¬ HoldsTwoOrThree children.now reader.old }
 {
     let mut window = reader.window()?;
     let first = short_child(&mut window, children.first)?;

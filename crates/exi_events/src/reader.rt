@@ -1,6 +1,6 @@
 //! Events read from a payload.
 
-ghost use Rattle.std.specs.Prelude.{◌≡◌, ◌+◌, ◌%◌, ◌≤◌, ◌<◌, Bool, List, length, Some, IfOk, IfErr};
+ghost use Rattle.std.specs.Prelude.{◌≡◌, ◌+◌, ◌%◌, ◌≤◌, ◌<◌, Bool, true, false, List, length, Some, IfOk, IfErr};
 ghost use Rattle.exi_writing.specs.Meaning.{IsLent, IsLentEvent};
 ghost use Rattle.exi_bits.specs.Reading.{ahead};
 ghost use Rattle.exi_writing.specs.RefusalCause.TheVariants as cause;
@@ -50,7 +50,7 @@ pub struct EventReader<'a, 'p, P: Places> {
 }
 
 impl<'a, 'p, P: Places> EventReader<'a, 'p, P> {
-    ghost use Rattle.std.specs.Prelude.{◌≡◌, ℕ, ◌≤◌, ◌<◌, ◌∷◌, [], List, length, Some, None, IfSome, IfOk, IfErr, Err};
+    ghost use Rattle.std.specs.Prelude.{◌≡◌, ℕ, ◌≤◌, ◌<◌, ◌∷◌, [], true, List, length, Some, None, IfSome, IfOk, IfErr, Err};
     ghost use Rattle.exi_spec.specs.Bits.{bits_of};
     ghost use Rattle.exi_schema.specs.Offers.{IsPlace};
     ghost use Rattle.exi_writing.specs.Documents.{first};
@@ -59,8 +59,10 @@ impl<'a, 'p, P: Places> EventReader<'a, 'p, P> {
     ghost use Rattle.exi_schema.specs.declared.tables.Datatype.{Datatype};
     ghost use Rattle.exi_schema.specs.Steps.{simple_at};
     ghost use Rattle.exi_events.specs.Inside.{HasTop};
-    ghost use Rattle.exi_events.specs.Sequence.{HoldsSequence, HoldsThree, TakesSequence, values_of};
-    ghost use Rattle.exi_events.specs.Optional.{HoldsOptional, TakesOptional};
+    ghost use Rattle.exi_schema.specs.declared.places.OptionalSequence.{OptionalSequence as OptionalChildren};
+    ghost use Rattle.exi_schema.specs.declared.places.SequenceChild.{SequenceChild as ChildOfSequence};
+    ghost use Rattle.exi_events.specs.Sequence.{AtSequence, HoldsSequence, HoldsThree, TakesSequence, values_of};
+    ghost use Rattle.exi_events.specs.Optional.{AtOptional, HoldsOptional, HoldsTwoOrThree, TakesOptional};
     ghost use Rattle.exi_events.specs.declared.reader.Phase.TheVariants as phase;
     ghost use Rattle.exi_writing.specs.Trees.{Event as TreeEvent};
     ghost use Rattle.exi_writing.specs.Values.{most_entries};
@@ -168,7 +170,8 @@ impl<'a, 'p, P: Places> EventReader<'a, 'p, P> {
     }
 
     /// The values of the innermost element and its end, where that is a sequence of three values of few bits and nothing of it is
-    /// taken: what ten calls of `next` tell. Anywhere else, and where one of them is refused, nothing is taken, and `None` is answered.
+    /// taken: what ten calls of `next` tell. `None`, and nothing is taken, anywhere else, and where one of them is refused; at such an element
+    /// only where the places don't keep it as a sequence, or its bits don't stand in a window.
     #[inline(always)]
     pub fn three_values(&mut self) -> Option<ThreeValues>
         requires ready { IsReady P.schema self.old }
@@ -180,6 +183,8 @@ impl<'a, 'p, P: Places> EventReader<'a, 'p, P> {
         ensures open_still { IfSome result (λ _. self.old.refused ≡ None) }
         ensures none { result ≡ None → self.new ≡ self.old }
         ensures values { IfSome result (λ three. TakesSequence (reading_of P.schema self.old) (reading_of P.schema self.new) (values_of three)) }
+        ensures whole { result ≡ None → P.keeps_sequences self.old.places.now ≡ true → self.old.refused ≡ None → (children : List ChildOfSequence)
+            → AtSequence (reading_of P.schema self.old) children → ¬ HoldsThree children self.old.reader }
         ensures told { (events : List TreeEvent) → HasTold (reading_of P.schema self.old) events
             → (more : List TreeEvent) × HasTold (reading_of P.schema self.new) more }
     {
@@ -191,8 +196,8 @@ impl<'a, 'p, P: Places> EventReader<'a, 'p, P> {
     }
 
     /// The values of the innermost element and its end, where that is a sequence of three values of few bits, of which the second, of this name,
-    /// may be absent, and nothing of it is taken: what ten calls of `next` tell, or seven. Anywhere else, and where one of them is refused,
-    /// nothing is taken, and `None` is answered.
+    /// may be absent, and nothing of it is taken: what ten calls of `next` tell, or seven. `None`, and nothing is taken, anywhere else, and where
+    /// one of them is refused; at such an element only where the places don't keep it as a sequence, or its bits don't stand in a window.
     #[inline(always)]
     pub fn optional_values(&mut self, second: u16) -> Option<OptionalValues>
         requires ready { IsReady P.schema self.old }
@@ -204,6 +209,8 @@ impl<'a, 'p, P: Places> EventReader<'a, 'p, P> {
         ensures open_still { IfSome result (λ _. self.old.refused ≡ None) }
         ensures none { result ≡ None → self.new ≡ self.old }
         ensures values { IfSome result (TakesOptional (reading_of P.schema self.old) (reading_of P.schema self.new) second) }
+        ensures whole { result ≡ None → P.keeps_sequences self.old.places.now ≡ true → self.old.refused ≡ None → (children : OptionalChildren)
+            → AtOptional (reading_of P.schema self.old) second children → ¬ HoldsTwoOrThree children self.old.reader }
         ensures told { (events : List TreeEvent) → HasTold (reading_of P.schema self.old) events
             → (more : List TreeEvent) × HasTold (reading_of P.schema self.new) more }
     {
@@ -277,12 +284,14 @@ impl<'a, 'p, P: Places> EventReader<'a, 'p, P> {
         }
     }
 
-    /// The children of the innermost element, if that is a sequence of values and nothing of it is taken.
+    /// The kind of the innermost element, if nothing of it is taken.
     #[inline(always)]
-    fn sequence(&self) -> Option<&'p [SequenceChild]>
+    fn begun_kind(&self) -> Option<u16>
         requires ready { IsReady P.schema self.now }
         ensures inside { IfSome result (λ _. self.now.phase ≡ phase.Inside) }
-        ensures sequence { IfSome result (λ children. HoldsSequence (P.schema self.now.places.now) self.now.elements children.now) }
+        ensures of_schema { IfSome result (λ kind. kind < length (P.schema self.now.places.now).kinds) }
+        ensures begun { IfSome result (λ kind. (name : ℕ) × (above : List Opened) × (self.now.elements ≡ opened name (first kind) ∷ above)) }
+        ensures none { result ≡ None → (name kind : ℕ) (above : List Opened) → standing_of self.now.phase self.now.elements ≡ Inside (opened name (first kind)) above → ⊥ }
     {
         let Phase::Inside = self.phase else {
             return None;
@@ -291,7 +300,21 @@ impl<'a, 'p, P: Places> EventReader<'a, 'p, P> {
         if top.place != Place::first(top.place.kind) {
             return None;
         }
-        Some(self.places.sequence(top.place.kind))
+        Some(top.place.kind)
+    }
+
+    /// The children of the innermost element, if that is a sequence of values and nothing of it is taken.
+    #[inline(always)]
+    fn sequence(&self) -> Option<&'p [SequenceChild]>
+        requires ready { IsReady P.schema self.now }
+        ensures inside { IfSome result (λ _. self.now.phase ≡ phase.Inside) }
+        ensures sequence { IfSome result (λ children. HoldsSequence (P.schema self.now.places.now) self.now.elements children.now) }
+        ensures none { result ≡ None → (all : List ChildOfSequence) → ¬ AtSequence (reading_of P.schema self.now) all }
+        ensures whole { P.keeps_sequences self.now.places.now ≡ true
+            → IfSome result (λ children. (all : List ChildOfSequence) → AtSequence (reading_of P.schema self.now) all → length all ≤ 8 → children.now ≡ all) }
+    {
+        let kind = self.begun_kind()?;
+        Some(self.places.sequence(kind))
     }
 
     /// The values of the innermost element, which is a sequence of these children, and its end. `None` only where what is left doesn't begin with
@@ -324,22 +347,20 @@ impl<'a, 'p, P: Places> EventReader<'a, 'p, P> {
         requires ready { IsReady P.schema self.now }
         ensures inside { IfSome result (λ _. self.now.phase ≡ phase.Inside) }
         ensures sequence { IfSome result (λ children. HoldsOptional (P.schema self.now.places.now) self.now.elements second children.now) }
+        ensures none { result ≡ None → P.keeps_sequences self.now.places.now ≡ true → (all : OptionalChildren) → ¬ AtOptional (reading_of P.schema self.now) second all }
+        ensures whole { P.keeps_sequences self.now.places.now ≡ true
+            → IfSome result (λ children. (all : OptionalChildren) → AtOptional (reading_of P.schema self.now) second all → children.now ≡ all) }
     {
-        let Phase::Inside = self.phase else {
-            return None;
-        };
-        let top = self.elements.innermost()?;
-        if top.place != Place::first(top.place.kind) {
-            return None;
-        }
-        let children = self.places.optional_sequence(top.place.kind)?;
-        if children.second.name != second || children.third.name == second {
+        let kind = self.begun_kind()?;
+        let children = self.places.optional_sequence(kind)?;
+        if !has_second(children, second) {
             return None;
         }
         Some(children)
     }
 
-    /// The values of the innermost element, which is a sequence of these children, and its end, where they have few bits and none is refused.
+    /// The values of the innermost element, which is a sequence of these children, and its end. `None` only where what is left doesn't begin with
+    /// such values of few bits and the end.
     #[inline(always)]
     fn take_optional_sequence(
         &mut self,
@@ -355,6 +376,7 @@ impl<'a, 'p, P: Places> EventReader<'a, 'p, P> {
         ensures payload { self.new.reader.bits ≡ self.old.reader.bits }
         ensures refusals { self.new.refused ≡ self.old.refused }
         ensures none { result ≡ None → self.new ≡ self.old }
+        ensures whole { result ≡ None → ¬ HoldsTwoOrThree children.now self.old.reader }
         ensures values { IfSome result (TakesOptional (reading_of P.schema self.old) (reading_of P.schema self.new) second) }
         ensures told { (events : List TreeEvent) → HasTold (reading_of P.schema self.old) events
             → (more : List TreeEvent) × HasTold (reading_of P.schema self.new) more }
@@ -423,6 +445,15 @@ impl<'a, 'p, P: Places> EventReader<'a, 'p, P> {
             },
         }
     }
+}
+
+/// Whether the second of these children alone has this name.
+#[inline(always)]
+fn has_second(children: &OptionalSequence, second: u16) -> bool
+    ensures alone { result ≡ true → (children.now.second.name ≡ second) × (children.now.third.name ≡ second → ⊥) }
+    ensures other { result ≡ false → children.now.second.name ≡ second → (children.now.third.name ≡ second → ⊥) → ⊥ }
+{
+    children.second.name == second && children.third.name != second
 }
 
 /// A refusal, which is kept.

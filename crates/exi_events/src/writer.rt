@@ -3,7 +3,9 @@
 ghost use Rattle.std.specs.Prelude.{◌≡◌, ◌≤◌, ◌*◌, length};
 ghost use Rattle.exi_bits.specs.Written.{PadsZero};
 
-use crate::child::{ThreeChildren, child_at, child_word, code_word, three_word};
+use crate::child::{
+    OptionalChildren, ThreeChildren, child_at, child_word, code_word, optional_word, three_word,
+};
 use crate::offer::{Found, inside, names_root, offer_inside, outside};
 use crate::open::{OpenElement, OpenElements};
 use crate::putting::put_event;
@@ -42,14 +44,14 @@ pub struct EventWriter<'b, 'p, P: Places> {
 }
 
 impl<'b, 'p, P: Places> EventWriter<'b, 'p, P> {
-    ghost use Rattle.std.specs.Prelude.{◌<◌, ◌∷◌, [], ◌↔◌, IsTrue, IsSome, List, take, Some, None, IfSome, IfErr, OnOk, OnErr, IsErr, Err, OnSome, ◌++◌, ◌+◌};
+    ghost use Rattle.std.specs.Prelude.{◌<◌, ◌∷◌, [], ◌↔◌, true, IsTrue, IsSome, List, take, Some, None, IfSome, IfErr, OnOk, OnErr, IsErr, Err, OnSome, ◌++◌, ◌+◌};
     ghost use Rattle.exi_bits.specs.Written.{HoldsBits};
     ghost use Rattle.exi_writing.specs.Trees.{Event as TreeEvent};
     ghost use Rattle.exi_writing.specs.Values.{most_entries};
     ghost use Rattle.exi_writing.specs.Grammar.{Opened, Behind};
     ghost use Rattle.exi_writing.specs.Meaning.{event_of};
     ghost use Rattle.exi_schema.specs.Offers.{IsPlace};
-    ghost use Rattle.exi_events.specs.Child.{OffersShort, PutsChild, PutsThree};
+    ghost use Rattle.exi_events.specs.Child.{OffersShort, PutsChild, PutsThree, OffersThree, PutsOptional, OffersOptional};
     ghost use Rattle.exi_writing.specs.Trees.{Start, EndElement};
     ghost use Rattle.exi_events.specs.Inside.{HasTop, GoesTo};
     ghost use Rattle.exi_events.specs.declared.reader.Phase.TheVariants as phase;
@@ -193,7 +195,8 @@ impl<'b, 'p, P: Places> EventWriter<'b, 'p, P> {
     }
 
     /// Puts an element of three values, its start, its children and its end, where it is a sequence of such children, their bits are few,
-    /// and all may be put: what eleven calls of `try_put` put. `None`, and nothing is put, anywhere else, and where fewer than 8 bytes are left.
+    /// and all may be put: what eleven calls of `try_put` put. `None`, and nothing is put, only where fewer than 8 bytes are left, no such
+    /// element is offered, the places don't keep it as a sequence, or its bits are more than 64.
     #[inline(always)]
     pub fn put_three(&mut self, name: u16, values: &ThreeChildren) -> Option<()>
         requires ready { IsReadyToPut self.old }
@@ -202,10 +205,31 @@ impl<'b, 'p, P: Places> EventWriter<'b, 'p, P> {
         ensures none { result ≡ None → self.new ≡ self.old }
         ensures open_still { OnSome result ((self.old.full ≡ None) × (self.new.full ≡ None)) }
         ensures put { OnSome result (PutsThree (P.schema self.old.places.now) (draft_of self.old) (draft_of self.new) name values.now) }
+        ensures whole { result ≡ None → P.keeps_sequences self.old.places.now ≡ true → (top : Opened) → HasWordRoom self.old top → ¬ OffersThree (P.schema self.old.places.now).kinds top.place name values.now }
     {
         let top = self.open_with_room()?;
         let child = child_at(self.places, top.place, name)?;
         let word = three_word(self.places, top.place, name, child, values)?;
+        self.put_word(&word, child.next);
+        Some(())
+    }
+
+    /// Puts an element of three values of which the second may be absent, its start, its children and its end, as `put_three` does: what eleven
+    /// calls of `try_put` put, or eight. `None`, and nothing is put, only where fewer than 8 bytes are left, no such element is offered, the
+    /// places don't keep it as such a sequence, or its bits are more than 64.
+    #[inline(always)]
+    pub fn put_optional(&mut self, name: u16, values: &OptionalChildren) -> Option<()>
+        requires ready { IsReadyToPut self.old }
+        ensures ready { IsReadyToPut self.new }
+        ensures lent { KeepsLent self.old self.new }
+        ensures none { result ≡ None → self.new ≡ self.old }
+        ensures open_still { OnSome result ((self.old.full ≡ None) × (self.new.full ≡ None)) }
+        ensures put { OnSome result (PutsOptional (P.schema self.old.places.now) (draft_of self.old) (draft_of self.new) name values.now) }
+        ensures whole { result ≡ None → P.keeps_sequences self.old.places.now ≡ true → (top : Opened) → HasWordRoom self.old top → ¬ OffersOptional (P.schema self.old.places.now).kinds top.place name values.now }
+    {
+        let top = self.open_with_room()?;
+        let child = child_at(self.places, top.place, name)?;
+        let word = optional_word(self.places, top.place, name, child, values)?;
         self.put_word(&word, child.next);
         Some(())
     }

@@ -1,6 +1,6 @@
 -- W3C EXI 1.0 (Second Edition) 8.5.4, Schema-informed Element and Type Grammars: elements in which one thing alone may stand at each
 -- place.
-use Rattle.std.specs.Prelude.{◌≡◌, ℕ, false, List, [], ◌∷◌, Some, ◌⊎◌}
+use Rattle.std.specs.Prelude.{◌≡◌, ℕ, ◌≤◌, false, List, [], ◌∷◌, length, Some, ◌⊎◌}
 use Rattle.exi_schema.specs.declared.places.Place.{Place}
 use Rattle.exi_schema.specs.declared.places.OptionalSequence.{OptionalSequence}
 use Rattle.exi_schema.specs.declared.places.SequenceChild.{SequenceChild}
@@ -22,6 +22,10 @@ IsSequence kinds here (child ∷ children) =
 -- what is answered of a kind: the children of such a sequence, or nothing
 abbrev pub TellsSequence : List PlainKind → Place → List SequenceChild → Type 0
 TellsSequence kinds here children = (children ≡ []) ⊎ IsSequence kinds here children
+
+-- these are the children of the sequence from here on, if there is one of at most eight
+abbrev pub KeepsSequence : List PlainKind → Place → List SequenceChild → Type 0
+KeepsSequence kinds here children = (all : List SequenceChild) → IsSequence kinds here all → length all ≤ 8 → children ≡ all
 
 -- from this place on the first of these children, the second or not, and the third, each with a value, and then the end: where the second
 -- may stand, what follows behind it may stand too

@@ -126,15 +126,19 @@ pub enum Root {
 
 /// What a reader or a writer asks of a schema, in whatever form the schema is kept.
 pub trait Places {
-    ghost use Rattle.std.specs.Prelude.{◌≡◌, ℕ, ◌<◌, ◌^◌, Some, None, IfSome, slice_get, length};
+    ghost use Rattle.std.specs.Prelude.{◌≡◌, ℕ, ◌<◌, ◌^◌, Bool, true, Some, None, IfSome, option_copied, slice_get, length};
+    ghost use Rattle.exi_schema.specs.declared.places.OptionalSequence.{OptionalSequence as OptionalChildren};
     ghost use Rattle.exi_schema.specs.declared.places.Step.{Step as SchemaStep};
     ghost use Rattle.exi_schema.specs.Offers.{IsPlace, IsWidth, offers};
     ghost use Rattle.exi_schema.specs.Schemas.{PlainSchema};
-    ghost use Rattle.exi_schema.specs.Sequences.{TellsSequence, IsOptionalSequence};
+    ghost use Rattle.exi_schema.specs.Sequences.{TellsSequence, KeepsSequence, IsOptionalSequence};
     ghost use Rattle.exi_schema.specs.Steps.{IsStep, IsSought, IsRoot, IsRootOf, simple_at};
 
     /// The schema that the value tells.
     ghost schema: { Self → PlainSchema };
+
+    /// Whether each sequence of at most eight values is kept, and each of three of which the second may be absent.
+    ghost keeps_sequences: { Self → Bool };
 
     /// How many event codes are offered at a place of the schema.
     fn alternatives(&self, place: Place) -> u16
@@ -178,19 +182,16 @@ pub trait Places {
     /// a simple kind, and is the only one that may stand there. Empty for any other kind, and where the sequences are not kept.
     fn sequence(&self, kind: u16) -> &[SequenceChild]
         requires { kind < length (schema self.now).kinds }
-        ensures { TellsSequence (schema self.now).kinds (record { kind = kind; particle = 0; copies = 0; attributes = 0 }) result.now }
-    {
-        &[]
-    }
+        ensures tells { TellsSequence (schema self.now).kinds (record { kind = kind; particle = 0; copies = 0; attributes = 0 }) result.now }
+        ensures whole { keeps_sequences self.now ≡ true → KeepsSequence (schema self.now).kinds (record { kind = kind; particle = 0; copies = 0; attributes = 0 }) result.now };
 
     /// The children of a kind of the schema that is a sequence of three values of which the second may be absent: it has no attributes, each child
     /// is of a simple kind, and nothing else may stand there. `None` for any other kind, and where such sequences are not kept.
     fn optional_sequence(&self, kind: u16) -> Option<&OptionalSequence>
         requires { kind < length (schema self.now).kinds }
-        ensures { IfSome result (λ it. IsOptionalSequence (schema self.now).kinds (record { kind = kind; particle = 0; copies = 0; attributes = 0 }) it.now) }
-    {
-        None
-    }
+        ensures tells { IfSome result (λ it. IsOptionalSequence (schema self.now).kinds (record { kind = kind; particle = 0; copies = 0; attributes = 0 }) it.now) }
+        ensures whole { keeps_sequences self.now ≡ true → (all : OptionalChildren) → IsOptionalSequence (schema self.now).kinds (record { kind = kind; particle = 0; copies = 0; attributes = 0 }) all
+            → option_copied result ≡ Some all };
 
     /// How many bits a document number has.
     fn root_width(&self) -> u32

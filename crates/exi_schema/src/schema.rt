@@ -4,7 +4,9 @@ ghost use Rattle.std.specs.Prelude.{◌≡◌, true, map};
 ghost use Rattle.exi_schema.specs.Plain.{plain_kinds};
 ghost use Rattle.exi_schema.specs.Schemas.{is_schema};
 
-use crate::places::{Codes, Offer, Place, Places, Root, Sought, Step};
+use crate::places::{
+    Codes, Offer, OptionalSequence, Place, Places, Root, SequenceChild, Sought, Step,
+};
 use crate::tables::{Datatype, Declaration, RootOf};
 use crate::walk::{complex_count, complex_step, is_sought, root_in, simple_step, width_for};
 
@@ -51,9 +53,12 @@ impl<'s> Schema<'s> {
 }
 
 impl Places for Schema<'_> {
+    ghost use Rattle.std.specs.Prelude.{false};
     ghost use Rattle.exi_schema.specs.Told.{schema_of};
 
     ghost schema = { schema_of };
+
+    ghost keeps_sequences = { λ _. false };
 
     fn alternatives(&self, place: Place) -> u16 {
         match &self.kinds[place.kind as usize] {
@@ -105,6 +110,14 @@ impl Places for Schema<'_> {
             Declaration::Simple(datatype) => Some(*datatype),
             Declaration::Complex { .. } => None,
         }
+    }
+
+    fn sequence(&self, _kind: u16) -> &[SequenceChild] {
+        &[]
+    }
+
+    fn optional_sequence(&self, _kind: u16) -> Option<&OptionalSequence> {
+        None
     }
 
     fn root_width(&self) -> u32 {

@@ -11,10 +11,10 @@ use Rattle.exi_schema.specs.declared.tables.MemberStanding.{MemberStanding}
 use Rattle.exi_schema.specs.declared.tables.MemberStanding.TheVariants.{Taken}
 use Rattle.exi_schema.specs.Offers.{offers, IsPlace}
 use Rattle.exi_schema.specs.Plain.{PlainKind}
-use Rattle.exi_schema.specs.Sequences.{IsSequence, TellsSequence}
+use Rattle.exi_schema.specs.Sequences.{IsSequence, TellsSequence, KeepsSequence}
 use Rattle.exi_schema.specs.Steps.{IsStep, simple_at}
 use Rattle.exi_tables.specs.declared.sequences.Following.TheVariants as following
-use Rattle.exi_tables.specs.Followed.{IsFollowed, NoSequence, KeepsSequence}
+use Rattle.exi_tables.specs.Followed.{IsFollowed, NoSequence}
 
 -- ---- what follows, where one step is offered
 

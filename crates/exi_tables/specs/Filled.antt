@@ -7,11 +7,10 @@ use Rattle.exi_schema.specs.declared.places.Place.{Place}
 use Rattle.exi_schema.specs.Schemas.{PlainSchema}
 use Rattle.exi_schema.specs.Offers.{offers, IsWidth}
 use Rattle.exi_schema.specs.declared.places.OptionalSequence.{OptionalSequence}
-use Rattle.exi_schema.specs.Sequences.{TellsSequence, IsOptionalSequence}
+use Rattle.exi_schema.specs.Sequences.{TellsSequence, KeepsSequence, IsOptionalSequence}
 use Rattle.exi_schema.specs.Steps.{simple_at}
 use Rattle.exi_tables.specs.declared.filling.KindTable.{KindTable}
 use Rattle.exi_tables.specs.declared.filling.Row.{Row}
-use Rattle.exi_tables.specs.Followed.{KeepsSequence}
 use Rattle.exi_tables.specs.Counts.{attribute_places, particle_places, copy_places}
 
 -- the row of a place

@@ -1,5 +1,5 @@
--- Own: what follows at a place of a sequence of values, and that such a sequence is kept.
-use Rattle.std.specs.Prelude.{◌≡◌, ℕ, ◌≤◌, List, [], ◌∷◌, length, false, Some, slice_get}
+-- Own: what follows at a place of a sequence of values.
+use Rattle.std.specs.Prelude.{◌≡◌, ℕ, List, [], ◌∷◌, false, Some, slice_get}
 use Rattle.exi_schema.specs.declared.places.Place.{Place}
 use Rattle.exi_schema.specs.declared.places.SequenceChild.{SequenceChild}
 use Rattle.exi_schema.specs.declared.places.Step.{Step}
@@ -24,10 +24,6 @@ IsFollowed kinds here End = IsSequence kinds here [] × ((all : List SequenceChi
 -- no sequence goes on from here
 abbrev pub NoSequence : List PlainKind → Place → Type 0
 NoSequence kinds here = (all : List SequenceChild) → IsSequence kinds here all → ⊥
-
--- these are the children of the sequence from here on, if there is one of at most eight
-abbrev pub KeepsSequence : List PlainKind → Place → List SequenceChild → Type 0
-KeepsSequence kinds here children = (all : List SequenceChild) → IsSequence kinds here all → length all ≤ 8 → children ≡ all
 
 -- ---- a sequence of three values, of which the second may be absent
 

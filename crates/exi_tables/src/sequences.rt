@@ -3,9 +3,9 @@
 ghost use Rattle.std.specs.Prelude.{◌≡◌, ◌<◌, true, false, length, None, IfSome, IfOk};
 ghost use Rattle.exi_schema.specs.declared.tables.MemberStanding.TheVariants.{Taken};
 ghost use Rattle.exi_schema.specs.Offers.{IsPlace};
-ghost use Rattle.exi_schema.specs.Sequences.{TellsSequence};
+ghost use Rattle.exi_schema.specs.Sequences.{TellsSequence, KeepsSequence};
 ghost use Rattle.exi_schema.specs.Told.{schema_of};
-ghost use Rattle.exi_tables.specs.Followed.{IsFollowed, NoSequence, KeepsSequence};
+ghost use Rattle.exi_tables.specs.Followed.{IsFollowed, NoSequence};
 
 use charge_world::NoMemory;
 use exi_schema::{MemberStanding, Place, Places, Schema, SequenceChild, Step};

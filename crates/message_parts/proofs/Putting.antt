@@ -5,10 +5,11 @@ use Rattle.exi_schema.specs.Schemas.{PlainSchema}
 use Rattle.exi_events.specs.Grammar.{State, Moves}
 use Rattle.exi_events.specs.Trees.{Event, Start, Attribute, Content, EndElement, Trees, Value}
 use Rattle.exi_events.specs.Short.{tree_of}
-use Rattle.exi_events.specs.Child.{PutsChild, PutsThree}
+use Rattle.exi_events.specs.Child.{PutsChild, PutsThree, PutsRest, PutsOptional}
+use Rattle.exi_events.specs.declared.child.OptionalChildren.{OptionalChildren}
 use Rattle.exi_events.specs.declared.child.ThreeChildren.{ThreeChildren}
 use Rattle.exi_events.specs.declared.child.NamedValue.{NamedValue}
-use Rattle.message_parts.specs.Contents.{Inside as Contents, Of, Holding, Given, given, perhaps_given, Part, one, perhaps, each, perhaps_one, attributes_of, trees_of, perhaps_trees, each_trees, choice_trees, attributes_onto, trees_onto, one_onto, perhaps_onto, each_onto, choice_onto, given_onto, parts_onto, holding_with, IsThree, IsNamedOf}
+use Rattle.message_parts.specs.Contents.{Inside as Contents, Of, Holding, Given, given, perhaps_given, Part, one, perhaps, each, perhaps_one, attributes_of, trees_of, perhaps_trees, each_trees, choice_trees, attributes_onto, trees_onto, one_onto, perhaps_onto, each_onto, choice_onto, given_onto, parts_onto, holding_with, IsThree, IsTwoOrThree, IsNamedOf, IsSecond}
 use Rattle.exi_events.specs.Values.{WritesValue}
 use Rattle.exi_events.specs.Writer.{Draft, IsPut, IsNeeded, IsOfferedAs}
 use Rattle.exi_events.specs.declared.writer.NotPut.{NotPut}
@@ -151,6 +152,35 @@ module _ (F : Target) (s : PlainSchema) where
       let w3 = put_child three.third.name (tree_of three.third.value) (EndElement ∷ rest) put.two put.three is2 put.third_put w2 in
       put_one EndElement rest put.three g is3 put.end w3
 
+  -- the events of an element of which the second value may be absent, behind the first
+  abbrev rest_onto : Option NamedValue → NamedValue → List Event → List Event
+  rest_onto None third rest = one_onto third.name (Of (tree_of third.value)) (EndElement ∷ rest)
+  rest_onto (Some second) third rest = one_onto second.name (Of (tree_of second.value)) (one_onto third.name (Of (tree_of third.value)) (EndElement ∷ rest))
+
+  put_rest : (second : Option NamedValue) (third : NamedValue) (rest : List Event) (d g : Draft) → IsStanding s d.state.standing → PutsRest s d g second third → Writes F (rest_onto second third rest) (seen s d None) → Writes F rest (seen s g None)
+  put_rest None third rest d g is put w =
+      let is1 = stands_behind_child third.name (tree_of third.value) d put.0 is put.1 in
+      put_one EndElement rest put.0 g is1 put.2 (put_child third.name (tree_of third.value) (EndElement ∷ rest) d put.0 is put.1 w)
+  put_rest (Some second) third rest d g is put w =
+      let last = one_onto third.name (Of (tree_of third.value)) (EndElement ∷ rest) in
+      let is1 = stands_behind_child second.name (tree_of second.value) d put.0 is put.2 in
+      let is2 = stands_behind_child third.name (tree_of third.value) put.0 put.1 is1 put.3 in
+      let w1 = put_child second.name (tree_of second.value) last d put.0 is put.2 w in
+      let w2 = put_child third.name (tree_of third.value) (EndElement ∷ rest) put.0 put.1 is1 put.3 w1 in
+      put_one EndElement rest put.1 g is2 put.4 w2
+
+  abbrev optional_onto : ℕ → OptionalChildren → List Event → List Event
+  optional_onto name values rest = Start name ∷ one_onto values.first.name (Of (tree_of values.first.value)) (rest_onto values.second values.third rest)
+
+  put_optional : (name : ℕ) (values : OptionalChildren) (rest : List Event) (d g : Draft) → IsStanding s d.state.standing → PutsOptional s d g name values → Writes F (optional_onto name values rest) (seen s d None) → Writes F rest (seen s g None)
+  put_optional name values rest d g is put w =
+      let behind = rest_onto values.second values.third rest in
+      let is0 = stands_behind (Start name) d put.started is put.start in
+      let is1 = stands_behind_child values.first.name (tree_of values.first.value) put.started put.one is0 put.first_put in
+      let w0 = put_one (Start name) (one_onto values.first.name (Of (tree_of values.first.value)) behind) d put.started is put.start w in
+      let w1 = put_child values.first.name (tree_of values.first.value) behind put.started put.one is0 put.first_put w0 in
+      put_rest values.second values.third rest put.one g is1 put.rest_put w1
+
 -- a writer was open and is
 all_put : (F : Target) (events rest : List Event) (s t : PlainSchema) (d g : Draft) (before after : Option Full) → t ≡ s → before ≡ None → after ≡ None →
     (Writes F events (seen s d None) → Writes F rest (seen s g None)) → Writes F events (seen s d before) → Writes F rest (seen t g after)
@@ -173,12 +203,42 @@ module _ (F : Target) (rest : List Event) (s t : PlainSchema) (d g : Draft) (bef
       all_put F (three_onto F s name three rest) rest s t d g before after same was now (put_three F s name three rest d g is put)
       (subst (λ (ps : List Part). P [] ps) are.parts_are (subst (λ (given_ones : List Given). P given_ones parts) are.none_given w))
 
+  -- what lies ahead of an element of which the second value may be absent
+  abbrev Ahead : List Given → List Part → ℕ → Type 0
+  Ahead gs ps name = Writes F (one_onto name (holding_with gs ps) rest) (seen s d before)
+
+  ahead_rest : (name : ℕ) (first third : NamedValue) (second : Option NamedValue) (second_name : ℕ) (inside : Option Contents) → IsSecond second second_name inside →
+      Ahead [] (one first.name (Of (tree_of first.value)) ∷ perhaps second_name inside ∷ one third.name (Of (tree_of third.value)) ∷ []) name →
+      Writes F (optional_onto F s name (record { first = first; second = second; third = third }) rest) (seen s d before)
+  ahead_rest name first third None second_name inside are w =
+      subst (λ (o : Option Contents). Ahead [] (one first.name (Of (tree_of first.value)) ∷ perhaps second_name o ∷ one third.name (Of (tree_of third.value)) ∷ []) name) are w
+  ahead_rest name first third (Some it) second_name inside are w =
+      let there = subst (λ (o : Option Contents). Ahead [] (one first.name (Of (tree_of first.value)) ∷ perhaps second_name o ∷ one third.name (Of (tree_of third.value)) ∷ []) name) are.1 w in
+      subst (λ (n : ℕ). Ahead [] (one first.name (Of (tree_of first.value)) ∷ perhaps n (Some (Of (tree_of it.value))) ∷ one third.name (Of (tree_of third.value)) ∷ []) name) (sym are.0) there
+
+  pub optional_at_once : (name : ℕ) (values : OptionalChildren) (attributes : List Given) (parts : List Part) → IsTwoOrThree values attributes parts → PutsOptional s d g name values →
+      Writes F (one_onto name (holding_with attributes parts) rest) (seen s d before) → Writes F rest (seen t g after)
+  optional_at_once name values attributes parts are put w =
+      let all = subst (λ (ps : List Part). Ahead [] ps name) are.parts_are (subst (λ (gs : List Given). Ahead gs parts name) are.none_given w) in
+      all_put F (optional_onto F s name values rest) rest s t d g before after same was now (put_optional F s name values rest d g is put)
+      (ahead_rest name values.first values.third values.second are.second_name are.second_inside are.second_is all)
+
+pub optional_put_by : (F : Target) (rest : List Event) (s t : PlainSchema) (d g : Draft) (before after : Option Full) → t ≡ s → IsStanding s d.state.standing → (name : ℕ) (values : OptionalChildren) (attributes : List Given) (parts : List Part) → IsTwoOrThree values attributes parts →
+    {T : Type 0} (r : Option T) → OnSome r ((before ≡ None) × (after ≡ None)) → OnSome r (PutsOptional s d g name values) →
+    Writes F (one_onto name (holding_with attributes parts) rest) (seen s d before) → OnSome r (Writes F rest (seen t g after))
+optional_put_by F rest s t d g before after same is name values attributes parts are {T} None open_still put w = tt
+optional_put_by F rest s t d g before after same is name values attributes parts are {T} (Some x) open_still put w =
+    optional_at_once F rest s t d g before after same is open_still.0 open_still.1 name values attributes parts are put w
+
 pub three_put_by : (F : Target) (rest : List Event) (s t : PlainSchema) (d g : Draft) (before after : Option Full) → t ≡ s → IsStanding s d.state.standing → (name : ℕ) (three : ThreeChildren) (attributes : List Given) (parts : List Part) → IsThree three attributes parts →
     {T : Type 0} (r : Option T) → OnSome r ((before ≡ None) × (after ≡ None)) → OnSome r (PutsThree s d g name three) →
     Writes F (one_onto name (holding_with attributes parts) rest) (seen s d before) → OnSome r (Writes F rest (seen t g after))
 three_put_by F rest s t d g before after same is name three attributes parts are {T} None open_still put w = tt
 three_put_by F rest s t d g before after same is name three attributes parts are {T} (Some x) open_still put w =
     three_at_once F rest s t d g before after same is open_still.0 open_still.1 name three attributes parts are put w
+
+part_is : (it : NamedValue) (name : ℕ) (value : Value) → IsNamedOf it name value → one name (Of value) ≡ one it.name (Of (tree_of it.value))
+part_is it name value is = sym (ap (λ (n : ℕ). one n (Of (tree_of it.value))) is.name_is ∙ ap (λ (v : Value). one name (Of v)) is.value_is)
 
 pub three_named : (first second third : NamedValue) (first_name second_name third_name : ℕ) (a b c : Value) → IsNamedOf first first_name a → IsNamedOf second second_name b → IsNamedOf third third_name c →
     IsThree (record { first = first; second = second; third = third }) [] (one first_name (Of a) ∷ one second_name (Of b) ∷ one third_name (Of c) ∷ [])
@@ -190,9 +250,19 @@ three_named first second third first_name second_name third_name a b c is1 is2 i
           ∙ ap (λ (p : Part). one first.name (Of (tree_of first.value)) ∷ p ∷ one third_name (Of c) ∷ []) (part_is second second_name b is2)
           ∙ ap (λ (p : Part). one first.name (Of (tree_of first.value)) ∷ one second.name (Of (tree_of second.value)) ∷ p ∷ []) (part_is third third_name c is3);
     }
-  where
-    part_is : (it : NamedValue) (name : ℕ) (value : Value) → IsNamedOf it name value → one name (Of value) ≡ one it.name (Of (tree_of it.value))
-    part_is it name value is = sym (ap (λ (n : ℕ). one n (Of (tree_of it.value))) is.name_is ∙ ap (λ (v : Value). one name (Of v)) is.value_is)
+
+pub optional_named : (first third : NamedValue) (second : Option NamedValue) (first_name second_name third_name : ℕ) (a c : Value) (inside : Option Contents) → IsNamedOf first first_name a → IsSecond second second_name inside → IsNamedOf third third_name c →
+    IsTwoOrThree (record { first = first; second = second; third = third }) [] (one first_name (Of a) ∷ perhaps second_name inside ∷ one third_name (Of c) ∷ [])
+optional_named first third second first_name second_name third_name a c inside is1 is2 is3 =
+    record {
+      none_given = refl;
+      second_name = second_name;
+      second_inside = inside;
+      second_is = is2;
+      parts_are =
+          ap (λ (p : Part). p ∷ perhaps second_name inside ∷ one third_name (Of c) ∷ []) (part_is first first_name a is1)
+          ∙ ap (λ (p : Part). one first.name (Of (tree_of first.value)) ∷ perhaps second_name inside ∷ p ∷ []) (part_is third third_name c is3);
+    }
 
 -- ---- trees and the parts that they are made of lie alike ahead
 

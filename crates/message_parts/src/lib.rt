@@ -27,11 +27,11 @@ pub use children::{
 pub use descent::Descent;
 pub use document::{read, read_here, write};
 pub use exi_events;
-pub use exi_events::ThreeChildren;
+pub use exi_events::{OptionalChildren, ThreeChildren};
 pub use lent_text::LentText;
 pub use part::{
     Choice, Contents, Group, LargeChoice, LargeGroup, LargeRecord, PutChoice, PutRecord,
-    ReadRecord, Record, Root, Simple, three_children,
+    ReadRecord, Record, Root, Simple, optional_children, three_children,
 };
 pub use texts::{Binary, Text};
 pub use writer::{

@@ -7,7 +7,7 @@ ghost use Rattle.exi_schema.specs.declared.tables.Datatype.{Datatype};
 ghost use Rattle.exi_schema.specs.Schemas.{are_distinct};
 ghost use Rattle.exi_events.specs.Meaning.{value_of, IsShaped, IsLent};
 ghost use Rattle.exi_schema.specs.Plain.{PlainKind, PlainParticle};
-ghost use Rattle.message_parts.specs.Contents.{Inside, Given, Part, told_parts, told_given, told_inside, given_onto, parts_onto, one_onto, one, Of, IsThree, IsNamedOf};
+ghost use Rattle.message_parts.specs.Contents.{Inside, Given, Part, told_parts, told_given, told_inside, given_onto, parts_onto, one_onto, one, perhaps, Of, IsThree, IsTwoOrThree, IsNamedOf, IsSecond, mapped};
 ghost use Rattle.message_parts.specs.Particles.{names_among};
 ghost use Rattle.message_parts.specs.Reading.{Frame, seen_of, IsOpen, Leaves, Reads, IsRefusal, IsChosen, StartsAt, names_in};
 ghost use Rattle.message_parts.specs.Writing.{Target, Writes, put_of};
@@ -16,7 +16,7 @@ ghost use Rattle.exi_schema.specs.declared.tables.AttributeOf.{AttributeOf};
 
 use crate::descent::Descent;
 use exi_events::exi_documents::Refusal;
-use exi_events::{EventWriter, NamedValue, ThreeChildren, Value, short_of};
+use exi_events::{EventWriter, NamedValue, OptionalChildren, ThreeChildren, Value, short_of};
 use exi_schema::Places;
 
 /// A value of a simple kind, how it is put and how it is read.
@@ -62,6 +62,15 @@ pub trait PutRecord: Drop {
     #[inline(always)]
     fn three_values(&self) -> Option<ThreeChildren>
         ensures { IfSome result (λ three. IsThree three (given self.now) (parts self.now)) }
+    {
+        None
+    }
+
+    /// Its children, for a type that is three values of few bits of which the second may be absent, and nothing else, so that they are put at
+    /// once; else `None`.
+    #[inline(always)]
+    fn optional_values(&self) -> Option<OptionalChildren>
+        ensures { IfSome result (λ values. IsTwoOrThree values (given self.now) (parts self.now)) }
     {
         None
     }
@@ -254,6 +263,39 @@ pub fn three_children<'a, A: Simple<'a>, B: Simple<'a>, C: Simple<'a>>(
     let second = named(second_name, second)?;
     let third = named(third_name, third)?;
     Some(ThreeChildren {
+        first,
+        second,
+        third,
+    })
+}
+
+/// A value that may be absent as `named` makes it. `None` where it is there and doesn't have few bits.
+#[inline(always)]
+fn second_named<'a, T: Simple<'a>>(name: u16, value: &Option<T>) -> Option<Option<NamedValue>>
+    ensures { IfSome result (λ it. IsSecond it name (mapped (λ x. Of (T.value x)) value.now)) }
+{
+    match value {
+        Some(value) => Some(Some(named(name, value)?)),
+        None => Some(None),
+    }
+}
+
+/// The children of an element of three values of which the second may be absent, each with the number of its name, where they have few bits.
+#[inline(always)]
+pub fn optional_children<'a, A: Simple<'a>, B: Simple<'a>, C: Simple<'a>>(
+    first_name: u16,
+    first: &A,
+    second_name: u16,
+    second: &Option<B>,
+    third_name: u16,
+    third: &C,
+) -> Option<OptionalChildren>
+    ensures { IfSome result (λ values. IsTwoOrThree values [] (one first_name (Of (A.value first.now)) ∷ perhaps second_name (mapped (λ x. Of (B.value x)) second.now) ∷ one third_name (Of (C.value third.now)) ∷ [])) }
+{
+    let first = named(first_name, first)?;
+    let second = second_named(second_name, second)?;
+    let third = named(third_name, third)?;
+    Some(OptionalChildren {
         first,
         second,
         third,

@@ -202,6 +202,44 @@ fn put_three<T: PutRecord, P: Places>(
     writer.put_three(name, &three)
 }
 
+/// The same of three values of few bits of which the second may be absent.
+#[inline(always)]
+fn put_two_or_three<T: PutRecord, P: Places>(
+    writer: &mut EventWriter<'_, '_, P>,
+    name: u16,
+    value: &T,
+) -> Option<()>
+    requires ready { IsReadyToPut writer.old }
+    ensures ready { IsReadyToPut writer.new }
+    ensures lent { KeepsLent writer.old writer.new }
+    ensures none { result ≡ None → writer.new ≡ writer.old }
+    ensures write { (F : Target) (rest : List TreeEvent) → Writes F (one_onto name (holding_with (T.given value.now) (T.parts value.now)) rest) (put_of writer.old)
+        → OnSome result (Writes F rest (put_of writer.new)) }
+{
+    let values = value.optional_values()?;
+    writer.put_optional(name, &values)
+}
+
+/// The same of either, where it is one of the two.
+#[inline(always)]
+fn put_at_once<T: PutRecord, P: Places>(
+    writer: &mut EventWriter<'_, '_, P>,
+    name: u16,
+    value: &T,
+) -> Option<()>
+    requires ready { IsReadyToPut writer.old }
+    ensures ready { IsReadyToPut writer.new }
+    ensures lent { KeepsLent writer.old writer.new }
+    ensures none { result ≡ None → writer.new ≡ writer.old }
+    ensures write { (F : Target) (rest : List TreeEvent) → Writes F (one_onto name (holding_with (T.given value.now) (T.parts value.now)) rest) (put_of writer.old)
+        → OnSome result (Writes F rest (put_of writer.new)) }
+{
+    match put_three(writer, name, value) {
+        Some(()) => Some(()),
+        None => put_two_or_three(writer, name, value),
+    }
+}
+
 /// Puts an element with attributes and children, part by part.
 fn put_record_parts<T: PutRecord, P: Places>(
     writer: &mut EventWriter<'_, '_, P>,
@@ -231,7 +269,7 @@ pub fn put_record<T: PutRecord, P: Places>(
     ensures write { (F : Target) (rest : List TreeEvent) → Writes F (one_onto name (holding_with (T.given value.now) (T.parts value.now)) rest) (put_of writer.old)
         → Writes F rest (put_of writer.new) }
 {
-    match put_three(writer, name, value) {
+    match put_at_once(writer, name, value) {
         Some(()) => {}
         None => put_record_parts(writer, name, value),
     }

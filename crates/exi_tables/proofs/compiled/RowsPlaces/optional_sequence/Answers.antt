@@ -11,7 +11,7 @@ returns-clause-tells g c =
     lent_is c.as_ref.result (IsOptionalSequence s.kinds (record { kind = c.args.kind; particle = 0; copies = 0; attributes = 0 })) _ c.as_ref.ensures.value table.optional
 
 pub returns-clause-whole : goal.returns-clause-whole
-returns-clause-whole g c = λ all is.
+returns-clause-whole g c = λ _ all is.
     let s = g.D.Declared.schema in
     let table = table_of s c.args.kind c.self.inside.kinds.items c.index.result.now c.requires (omega arith) c.self.invariant.0 c.index.ensures in
     c.as_ref.ensures.value ∙ table.each_optional all is

@@ -1,7 +1,6 @@
 use Rattle.std.proofs.Common.{List, subst, sym, arith}
 use Rattle.exi_schema.specs.declared.places.SequenceChild.{SequenceChild}
-use Rattle.exi_schema.specs.Sequences.{TellsSequence}
-use Rattle.exi_tables.specs.Followed.{KeepsSequence}
+use Rattle.exi_schema.specs.Sequences.{TellsSequence, KeepsSequence}
 use Rattle.exi_tables.proofs.Reading.{table_of}
 use Rattle.exi_tables.proofs.compiled.RowsPlaces.sequence.Goals as goal
 
@@ -13,7 +12,7 @@ returns-clause-tells g c =
     subst Tells (sym c.as_slice.ensures.value) table.sequence
 
 pub returns-clause-whole : goal.returns-clause-whole
-returns-clause-whole g c =
+returns-clause-whole g c = λ _.
     let s = g.D.Declared.schema in
     let table = table_of s c.args.kind c.self.inside.kinds.items c.index.result.now c.requires (omega arith) c.self.invariant.0 c.index.ensures in
     let Keeps : List SequenceChild → Type 0 = λ l. KeepsSequence s.kinds (record { kind = c.args.kind; particle = 0; copies = 0; attributes = 0 }) l in
