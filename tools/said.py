@@ -46,7 +46,7 @@ def row(name, words, status, line, *said, files=(), **how):
             expect(name, text in err, f"standard error lacks {text!r}: {err!r}")
 
 
-COMMANDS = ["station PLAN", "car PLAN", "replay PLAN TRACE", "decode DIALECT HEX", "encode DIALECT TEXT", "basic SCRIPT", "migrate TRACE", "offer CALENDAR MOMENT", "schedule NEED HEX", "services CATALOGUE ID", "pick WANT HEX"]
+COMMANDS = ["station PLAN", "car PLAN", "replay PLAN TRACE", "audit PLAN TRACE", "decode DIALECT HEX", "encode DIALECT TEXT", "basic SCRIPT", "migrate TRACE", "offer CALENDAR MOMENT", "schedule NEED HEX", "services CATALOGUE ID", "pick WANT HEX"]
 
 
 def misused_words():
@@ -98,11 +98,23 @@ def refused_inputs():
     trace = "v2g-trace 2\n1 heard 5 tick\n2 hoard 6 tick\n"
     row("a wrong line", ["replay", "p", "t"], 4, "input 3\n", "Line 3 of t is refused", "It begins: 2 hoard 6 tick", files={"p": STATION, "t": trace})
     row("a trace of the newer format", ["migrate", "t"], 4, "input 1\n", "Line 1 of t is refused: it is no line of a trace of format 1", files={"t": trace})
+    row("a wrong line to judge", ["audit", "p", "t"], 4, "input 3\n", "Line 3 of t is refused", files={"p": STATION, "t": trace})
     car = "v2g-trace 2\n1 heard 5 1 came 0000000000000007\n1 sent 1 01fe8001000000228000dbab9371d3234b71d1b981899189d191818991d26b9b3a232b30020000040040\n2 heard 6 over\n"
     row("a car's trace", ["replay", "p", "t"], 0, None, "t is the trace of a car", files={"p": STATION, "t": car})
     row("no plan", ["station", "none.toml"], 7, "source\n", "none.toml can't be read: No such file")
     row("a folder", ["station", "folder"], 7, "source\n", "folder can't be read: Is a directory", files={"folder": None})
     row("no trace", ["replay", "p", "none.trace"], 7, "source\n", "none.trace can't be read: No such file", files={"p": STATION})
+
+
+def failed_checks():
+    came = "v2g-trace 1\nheard 0 1 came 0000000000000001\nheard 40 tick\n"
+    two = STATION + "[[post]]\ntcp = 15121\n"
+    row("a trace without a fault", ["audit", "p", "t"], 0, "audit ok lines 3\n", files={"p": STATION, "t": came})
+    row("an order too early", ["audit", "p", "t"], 9, "audit no line 4 check 1\n", "Line 4 of t (post 2, 40 ms) fails check 1: the contactor was ordered closed", files={"p": two, "t": came + "drove 2 close\n"})
+    row("an answer to nobody", ["audit", "p", "t"], 9, "audit no line 4 check 9\n", "Line 4 of t (post 1, 40 ms) fails check 9: what was sent", files={"p": two, "t": came + "sent 1 00\n"})
+    frame = "heard 50 1 bytes 01fe8001000000228000dbab9371d3234b71d1b981899189d181818991d26b9b3a232b30020000040040\n"
+    row("a message without an answer", ["audit", "p", "t"], 9, "audit no line 4 check 10\n", "Line 4 of t (post 1, 50 ms) fails check 10: a message of the car", files={"p": STATION, "t": came + frame})
+    row("the same at two posts", ["audit", "p", "t"], 9, "audit no line 4 check 10\n", "Line 4 of t (50 ms) fails check 10", files={"p": two, "t": came + frame})
 
 
 def refused_ports():
@@ -294,7 +306,7 @@ def at_a_terminal(name, keys):
         os.waitpid(pid, 0)
 
 
-for check in (misused_words, refused_plans, refused_inputs, refused_ports, unwritten, served, quiet, stopped, not_stopped):
+for check in (misused_words, refused_plans, refused_inputs, failed_checks, refused_ports, unwritten, served, quiet, stopped, not_stopped):
     check()
 at_a_terminal("the line stop at a terminal", b"stop\n")
 at_a_terminal("Ctrl-D at a terminal", b"\x04")

@@ -21,4 +21,3 @@ pub fn car_codecs_are_lawful()
 {}
 
 pub use car_codec_rules;
-pub use iso_requests;

@@ -7,11 +7,10 @@ ghost use Rattle.iso_word_messages.specs.Spellable.{CanSpell};
 ghost use Rattle.car_codec_laws.specs.Iso.{Encodes};
 ghost use Rattle.car_codec_laws.specs.Profiles.{HasNoProfile};
 
-use crate::words::word_of;
 use exi_events::Table;
 use iso_codec::{IsoTables, write_iso};
-use iso_word_messages::of_word;
-use session_words::{Request, Word};
+use iso_word_messages::of_request;
+use session_words::Request;
 
 /// Writes the encoding of a request to the front of a room, and answers its number of bytes. The table is emptied.
 pub(crate) fn write(
@@ -29,8 +28,7 @@ pub(crate) fn write(
     ensures encoded { Encodes request.now (take result room.new) }
 {
     iso_codec::laws::messages_are_written();
-    car_codec_laws::iso_requests::requests_are_within();
-    car_codec_laws::iso_requests::requests_are_small();
-    let word = word_of(request);
-    write_iso(tables, &of_word(&word), room, table).unwrap()
+    iso_codec::laws::encodings_are_read();
+    iso_table_laws::payloads_have_words();
+    write_iso(tables, &of_request(request), room, table).unwrap()
 }

@@ -10,7 +10,6 @@ mod din;
 mod iso;
 mod negotiating;
 mod typed;
-mod words;
 
 pub use car_codec::{CarCodec, REQUEST_ROOM};
 pub use charge_world::{Dialect, NoMemory};

@@ -4,8 +4,10 @@ use Rattle.std.specs.Prelude.{IfSome}
 use Rattle.std.specs.List.{AllByRecursion, range_with_len}
 use Rattle.std.specs.Option.{option_map}
 use Rattle.std.proofs.lemmas.Int.{ints}
+use Rattle.std.proofs.lemmas.List.Elements.{All-weaker}
 use Rattle.std.proofs.lemmas.List.FromFn.{length-map-range_with_len}
 use Rattle.arrayvec.specs.ArrayVec.{ArrayVec}
+use Rattle.document_sizes.specs.Sizes.{inside_weight}
 use Rattle.exi_documents.specs.Trees.{Number}
 use Rattle.exi_documents.specs.Values.{IsValue}
 use Rattle.exi_schema.specs.declared.tables.Datatype.TheVariants.{Bounded}
@@ -42,6 +44,7 @@ use Rattle.word_values.specs.declared.amounts.Written.{Written}
 use Rattle.word_values.specs.Amounts.{written, written_tenths, written_volts, written_watts}
 use Rattle.written_parts.proofs.Items.{head, tail, bytes_fit, text_fits, tuple_fits as number_fits}
 use Rattle.written_parts.proofs.Numbers.{IsPhysical, tenths_fit, volts_fit, watts_fit, none_fits}
+use Rattle.written_sizes.specs.Entries.{HasEntries}
 use Rattle.iso_schema.specs.Declarations.{kinds}
 use Rattle.iso_schema.specs.declared.kinds.TheConstants.{V2G_MESSAGE_KIND, BINARY8_KIND}
 use Rattle.iso_schema.specs.declared.names.TheConstants.{AUTHORIZATION_REQ, AUTHORIZATION_RES, CABLE_CHECK_REQ, CABLE_CHECK_RES, CHARGE_PARAMETER_DISCOVERY_REQ, CHARGE_PARAMETER_DISCOVERY_RES, CHARGING_STATUS_REQ, CHARGING_STATUS_RES, CURRENT_DEMAND_REQ, CURRENT_DEMAND_RES, PAYMENT_SERVICE_SELECTION_REQ, PAYMENT_SERVICE_SELECTION_RES, POWER_DELIVERY_REQ, POWER_DELIVERY_RES, PRE_CHARGE_REQ, PRE_CHARGE_RES, SERVICE_DETAIL_REQ, SERVICE_DETAIL_RES, SERVICE_DISCOVERY_REQ, SERVICE_DISCOVERY_RES, SESSION_SETUP_REQ, SESSION_SETUP_RES, SESSION_STOP_REQ, SESSION_STOP_RES, WELDING_DETECTION_REQ, WELDING_DETECTION_RES}
@@ -57,8 +60,9 @@ use Rattle.iso_tables.specs.Values.{unit_if, spelled, physical, current, voltage
 use Rattle.iso_tables.specs.Frame.{frame}
 use Rattle.iso_tables.specs.Setup.{code_alone, setup_req, setup_res, discovery_res, service_row, detail_res, selection_req, service, authorization_res, stop_req}
 use Rattle.iso_tables.specs.Power.{car_alone, present_voltage, cable_check_res, pre_charge_req, profile, delivery_req, tuple_or_first, delivery_res, status_parts, demand_req, demand_res, charging_res}
-use Rattle.iso_tables.specs.Parameters.{ac_car, dc_car, car_parts, parameters_req, schedule_entry, tuple, schedules, ac_post, dc_post, limit_parts, parameters_res}
+use Rattle.iso_tables.specs.Parameters.{ac_car, dc_car, car_parts, parameters_req, schedule_entry, tuple_up_to, schedules_up_to, ac_post, dc_post, limit_parts, parameters_res_up_to}
 use Rattle.iso_tables.specs.Words.{in_ask, in_tell, in_word}
+use Rattle.iso_table_laws.specs.Laws.{IsBrief}
 
 -- ---- amounts
 
@@ -175,20 +179,34 @@ entries_fit : (a : Amount) → AreWatts a → (start n : ℕ) → start + n ≤ 
 entries_fit a few start zero h = tt
 entries_fit a few start (suc n) h = (((omega arith, (lit≤ tt, tt)), (power_fits a few, tt)), entries_fit a few (start + 1) n (omega arith))
 
-tuple_fits : (t : Tuple) → CanTuple t → CanWrite kinds tuple t
-tuple_fits t can =
+abbrev HasUpTo : ℕ → Tuple → Type 0
+HasUpTo most t = t.entries ≤ most
+
+tuple_fits : (most : ℕ) (t : Tuple) → CanTuple t → HasUpTo most t → CanWrite kinds (tuple_up_to most) t
+tuple_fits most t can few =
     let count : length (entries_of t) ≡ t.entries = length-map-range_with_len (λ k. ((k, tt), (t.least, tt))) 0 t.entries in
     let some : 1 ≤ t.entries = can.entries.0 in
-    let few : t.entries ≤ 128 = can.entries.1 in
+    let bound : t.entries ≤ 128 = can.entries.1 in
     (id_fits t.id can.id, ((omega arith, omega arith, entries_fit t.least can.least 0 t.entries (omega arith), tt), tt))
 
-tuples_fit : (ts : List Tuple) → All CanTuple ts → AllByRecursion (λ t. CanWrite kinds tuple t) ts
-tuples_fit [] all = tt
-tuples_fit (t ∷ ts) all = (tuple_fits t (head CanTuple t ts all), tuples_fit ts (tail CanTuple t ts all))
+tuples_fit : (most : ℕ) (ts : List Tuple) → All CanTuple ts → All (HasUpTo most) ts → AllByRecursion (λ t. CanWrite kinds (tuple_up_to most) t) ts
+tuples_fit most [] all few = tt
+tuples_fit most (t ∷ ts) all few = (
+  tuple_fits most t (head CanTuple t ts all) (head (HasUpTo most) t ts few),
+  tuples_fit most ts (tail CanTuple t ts all) (tail (HasUpTo most) t ts few),
+)
 
-schedules_fit : (o : Option (ArrayVec Tuple)) → IfSome o CanTuples → IfSome (option_map (λ v. v.items) o) (λ ts. CanWrite kinds schedules ts)
-schedules_fit None can = tt
-schedules_fit (Some v) can = (can.0.0, can.0.1, tuples_fit v.items can.1, tt)
+abbrev HaveUpTo : ℕ → Option (ArrayVec Tuple) → Type 0
+HaveUpTo most o = IfSome o (λ v. All (HasUpTo most) v.items)
+
+schedules_fit : (most : ℕ) (o : Option (ArrayVec Tuple)) → IfSome o CanTuples → HaveUpTo most o
+    → IfSome (option_map (λ v. v.items) o) (λ ts. CanWrite kinds (schedules_up_to most) ts)
+schedules_fit most None can few = tt
+schedules_fit most (Some v) can few = (can.0.0, can.0.1, tuples_fit most v.items can.1 few, tt)
+
+declared_few : (o : Option (ArrayVec Tuple)) → IfSome o CanTuples → HaveUpTo 128 o
+declared_few None can = tt
+declared_few (Some v) can = All-weaker CanTuple (HasUpTo 128) (λ t own. own.entries.1) v.items can.1
 
 -- ---- limits
 
@@ -262,6 +280,17 @@ ask_good s (ask.WeldingDetection ready soc) named can =
     good 2500 WELDING_DETECTION_REQ car_alone s ((ready, (soc, tt)), tt) refl (lit≤ tt) named (car_fits ready soc can, tt)
 ask_good s (ask.SessionStop pause) named can = good 2500 SESSION_STOP_REQ stop_req s (pause, tt) refl (lit≤ tt) named (second_small pause, tt)
 
+-- schedules of up to so many entries: what is written for them is the same
+parameters_good : (most entries : ℕ) (s : SessionId) (c : Code) (p : Processing) (schedule : Option (ArrayVec Tuple)) (l : PostLimits)
+    → fits kinds (message frame CHARGE_PARAMETER_DISCOVERY_RES (parameters_res_up_to entries)) V2G_MESSAGE_KIND ≡ true
+    → bits 6 kinds (message frame CHARGE_PARAMETER_DISCOVERY_RES (parameters_res_up_to entries)) ≤ most
+    → CanSession s → CanTell (tell.ChargeParameters p schedule l) → HaveUpTo entries schedule
+    → AreGood most (in_tell s c (tell.ChargeParameters p schedule l))
+parameters_good most entries s c p schedule l fit few named can up_to =
+    good most CHARGE_PARAMETER_DISCOVERY_RES (parameters_res_up_to entries) s
+    (c, (p, (option_map (λ tuples. tuples.items) schedule, (limit_parts l, tt)))) fit few named
+    (code_small c, (step_small p, (schedules_fit entries schedule can.0 up_to, (post_limits_fit l can.1, tt))))
+
 tell_good : (s : SessionId) (c : Code) (t : Tell) → CanSession s → CanTell t → AreGood (told_bits t) (in_tell s c t)
 tell_good s c (tell.SessionSetup (evse_id.Text id)) named can =
     good 2500 SESSION_SETUP_RES setup_res s (c, (id, tt)) refl (lit≤ tt) named (code_small c, (text_fits 37 id can.0 can.1, tt))
@@ -276,9 +305,7 @@ tell_good s c tell.PaymentSelection named can =
 tell_good s c (tell.Authorization p) named can =
     good 2500 AUTHORIZATION_RES authorization_res s (c, (p, tt)) refl (lit≤ tt) named (code_small c, (step_small p, tt))
 tell_good s c (tell.ChargeParameters p schedule l) named can =
-    good 160000 CHARGE_PARAMETER_DISCOVERY_RES parameters_res s
-    (c, (p, (option_map (λ tuples. tuples.items) schedule, (limit_parts l, tt)))) refl (lit≤ tt) named
-    (code_small c, (step_small p, (schedules_fit schedule can.0, (post_limits_fit l can.1, tt))))
+    parameters_good 160000 128 s c p schedule l refl (lit≤ tt) named can (declared_few schedule can.0)
 tell_good s c (tell.CableCheck status p) named can =
     good 2500 CABLE_CHECK_RES cable_check_res s (c, (status, (p, tt))) refl (lit≤ tt) named (code_small c, (status_fits status, (step_small p, tt)))
 tell_good s c (tell.PreCharge status v) named can =
@@ -326,3 +353,27 @@ pub word_good : (w : Word) → CanSpell w → AreGood (most_bits w) (in_word w)
 word_good (word.Request r) can = ask_good r.session r.ask can.0 can.1
 word_good (word.Reply r) can = tell_good r.session r.code r.tell can.0 can.2
 word_good word.Nothing can = tt
+
+-- ---- with few entries
+
+abbrev pub few_bits : Option Inside → Type 0
+few_bits own = IfSome own (λ i. inside_weight 6 i ≤ 8000)
+
+fewer : (n : ℕ) (o : Option Inside) → n ≤ 8000 → AreGood n o → few_bits o
+fewer n None h g = tt
+fewer n (Some own) h g = let few : inside_weight 6 own ≤ n = g.few in omega arith
+
+brief_tell : (s : SessionId) (c : Code) (t : Tell) → CanSession s → CanTell t → HasEntries 1 t → few_bits (in_tell s c t)
+brief_tell s c (tell.ChargeParameters p schedule l) named can few =
+    fewer 8000 (in_tell s c (tell.ChargeParameters p schedule l)) (lit≤ tt) (parameters_good 8000 1 s c p schedule l refl (lit≤ tt) named can few)
+brief_tell s c other named can few = fewer 2500 (in_tell s c other) (lit≤ tt) (tell_good s c other named can)
+
+brief_ask : (s : SessionId) (a : Ask) → CanSession s → CanAsk a → few_bits (in_ask s a)
+brief_ask s (ask.PowerDelivery p tuple watts) named can =
+    fewer 8000 (in_ask s (ask.PowerDelivery p tuple watts)) (lit≤ tt) (ask_good s (ask.PowerDelivery p tuple watts) named can)
+brief_ask s other named can = fewer 2500 (in_ask s other) (lit≤ tt) (ask_good s other named can)
+
+pub brief_bits : (w : Word) → CanSpell w → IsBrief w → few_bits (in_word w)
+brief_bits (word.Request r) can few = brief_ask r.session r.ask can.0 can.1
+brief_bits (word.Reply r) can few = brief_tell r.session r.code r.tell can.0 can.2 few
+brief_bits word.Nothing can few = tt

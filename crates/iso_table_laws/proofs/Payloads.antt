@@ -1,10 +1,13 @@
 -- The laws of payloads, by those of their tables.
-use Rattle.std.proofs.Common.{◌≡◌, ℕ, ◌+◌, ◌*◌, ◌≤◌, true, List, length, Some, refl, subst, arith}
+use Rattle.std.proofs.Common.{◌≡◌, ℕ, ◌+◌, ◌*◌, ◌≤◌, true, List, length, Option, Some, refl, sym, ◌∙◌, subst, arith}
 use Rattle.std.specs.Prelude.{IfSome}
-use Rattle.document_sizes.specs.Sizes.{has_narrow_codes}
+use Rattle.document_sizes.proofs.Documents.{document_fits}
+use Rattle.document_sizes.proofs.Parts.{root_sum}
+use Rattle.document_sizes.specs.Sizes.{has_narrow_codes, tree_weight, inside_weight}
 use Rattle.exi_schema.specs.declared.tables.RootOf.{RootOf}
 use Rattle.kind_laws.specs.Laws.{HasEncoding}
 use Rattle.message_parts.specs.Contents.{Inside}
+use Rattle.message_parts.specs.Documents.{PassesBytes}
 use Rattle.session_words.specs.declared.word.Ask.{Ask}
 use Rattle.session_words.specs.declared.word.Ask.TheVariants as ask
 use Rattle.session_words.specs.declared.word.Tell.{Tell}
@@ -20,12 +23,19 @@ use Rattle.message_tables.proofs.Frames.{IsGood}
 use Rattle.message_tables.proofs.Payloads as payloads
 use Rattle.iso_tables.specs.Frame.{frame}
 use Rattle.iso_tables.specs.Words.{messages, word_of_tree, in_word, root}
-use Rattle.iso_table_laws.specs.Laws.{asked_bytes, told_bytes, most_bytes, Reads, IsWrittenFor}
+use Rattle.iso_table_laws.specs.Laws.{asked_bytes, told_bytes, most_bytes, IsBrief, Reads, IsWrittenFor}
 use Rattle.iso_table_laws.proofs.Words.{ReadsAs, word_read_back}
-use Rattle.iso_table_laws.proofs.Fits.{asked_bits, told_bits, most_bits, word_good}
+use Rattle.iso_table_laws.proofs.Fits.{asked_bits, told_bits, most_bits, word_good, few_bits, brief_bits}
 
 pub one_word : (payload : List ℕ) (w v : Word) → Reads payload w → Reads payload v → w ≡ v
 one_word payload w v a b = payloads.one_word schema word_of_tree payload w v a b
+
+some_of : {X : Type 0} (x y : X) → ◌≡◌ {A = Option X} (Some x) (Some y) → x ≡ y
+some_of x y same = cc
+
+-- what is written for a word is one
+pub one_inside : (w : Word) (own other : Inside) → in_word w ≡ Some own → in_word w ≡ Some other → own ≡ other
+one_inside w own other is also = some_of own other (sym is ∙ also)
 
 good_of : (w : Word) (own : Inside) → CanSpell w → in_word w ≡ Some own → IsGood frame (most_bits w) own
 good_of w own can is = subst (λ o. IfSome o (IsGood frame (most_bits w))) is (word_good w can)
@@ -62,3 +72,10 @@ short w payload can is =
     let few : 8 * length payload ≤ 15 + (7 + most_bits w) =
     payloads.small_encoding schema V2G_MESSAGE (most_bits w) is.own payload narrow is.encoding (good_of w is.own can is.own_is).few in
     in_bytes w (length payload) is.own is.own_is (omega arith)
+
+pub fits_room : (w : Word) (own : Inside) (number : ℕ) → CanSpell w → IsBrief w → in_word w ≡ Some own → PassesBytes schema number (root own) 1024 → ⊥
+fits_room w own number can brief is passes =
+    let few : inside_weight 6 own ≤ 8000 = subst few_bits is (brief_bits w can brief) in
+    let sum : tree_weight 6 (root own) ≡ inside_weight 6 own = root_sum 6 V2G_MESSAGE own in
+    let light : 8 + (7 + tree_weight 6 (root own)) ≤ 8 * 1024 = omega arith in
+    document_fits 6 schema number (root own) 1024 narrow light passes

@@ -2,12 +2,14 @@
 use Rattle.std.specs.Prelude.{◌≡◌, ℕ, ◌≤◌, List, length, Some}
 use Rattle.kind_laws.specs.Laws.{HasEncoding}
 use Rattle.message_parts.specs.Contents.{Inside}
+use Rattle.message_parts.specs.Documents.{PassesBytes}
 use Rattle.session_words.specs.declared.word.Ask.{Ask}
 use Rattle.session_words.specs.declared.word.Ask.TheVariants as ask
 use Rattle.session_words.specs.declared.word.Tell.{Tell}
 use Rattle.session_words.specs.declared.word.Tell.TheVariants as tell
 use Rattle.session_words.specs.declared.word.Word.{Word}
 use Rattle.session_words.specs.declared.word.Word.TheVariants as word
+use Rattle.written_sizes.specs.Entries.{HasEntries}
 use Rattle.written_words.specs.Back.{word_back}
 use Rattle.iso_schema.specs.Declarations.{schema}
 use Rattle.iso_schema.specs.declared.names.TheConstants.{V2G_MESSAGE}
@@ -37,6 +39,11 @@ most_bytes (word.Request r) = asked_bytes r.ask
 most_bytes (word.Reply r) = told_bytes r.tell
 most_bytes word.Nothing = 0
 
+-- no schedule has more than one entry
+abbrev pub IsBrief : Word → Type 0
+IsBrief (word.Reply r) = HasEntries 1 r.tell
+IsBrief other = Unit {0}
+
 abbrev pub ReadsAsOne : Type 0
 ReadsAsOne = (payload : List ℕ) (w v : Word) → Reads payload w → Reads payload v → w ≡ v
 
@@ -48,3 +55,6 @@ IsSpelled = (w : Word) (own : Inside) → CanSpell w → in_word w ≡ Some own 
 
 abbrev pub IsShort : Type 0
 IsShort = (w : Word) (payload : List ℕ) → CanSpell w → IsWrittenFor w payload → length payload ≤ most_bytes w
+
+abbrev pub FitsRoom : Type 0
+FitsRoom = (w : Word) (own : Inside) (number : ℕ) → CanSpell w → IsBrief w → in_word w ≡ Some own → PassesBytes schema number (root own) 1024 → ⊥

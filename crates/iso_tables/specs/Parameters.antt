@@ -1,6 +1,6 @@
 -- ISO 15118-2:2014 8.4.3.8 (ChargeParameterDiscovery): what stands where in it, and what it asks or tells. Of a schedule a word has the
 -- count of its entries and the least power, right where all its units are. They are written from one second to the next, each for a day.
-use Rattle.std.specs.Prelude.{map, length, ℤ, pos, List, Option, ◌⊎◌}
+use Rattle.std.specs.Prelude.{ℕ, map, length, ℤ, pos, List, Option, ◌⊎◌}
 use Rattle.std.proofs.Common.{inl, inr}
 use Rattle.std.specs.List.{list_all}
 use Rattle.std.specs.Option.{option_map}
@@ -59,14 +59,17 @@ abbrev pub car_parts : CarLimits → AcCar ⊎ DcCar
 car_parts (car.Ac most_current least_current most_voltage) = inl (most_voltage, (most_current, (least_current, tt)))
 car_parts (car.Dc ready soc current watts voltage) = inr ((ready, (soc, tt)), (current, (watts, (voltage, tt))))
 
+abbrev pub CarRow : Type 0
+CarRow = (AcCar ⊎ DcCar) × Unit {0}
+
+abbrev pub car_row : Table rows CarRow
+car_row = either AC_EV_CHARGE_PARAMETER ac_car DC_EV_CHARGE_PARAMETER dc_car ▷ nothing
+
 abbrev pub ParametersReq : Type 0
-ParametersReq = Mode × ((AcCar ⊎ DcCar) × Unit {0})
+ParametersReq = Mode × CarRow
 
 abbrev pub parameters_req : Table rows ParametersReq
-parameters_req =
-    once REQUESTED_ENERGY_TRANSFER_MODE wanted_mode
-    ▷ either AC_EV_CHARGE_PARAMETER ac_car DC_EV_CHARGE_PARAMETER dc_car
-    ▷ nothing
+parameters_req = once REQUESTED_ENERGY_TRANSFER_MODE wanted_mode ▷ car_row
 
 abbrev pub parameters_asked : ParametersReq → Ask
 parameters_asked x = ask.ChargeParameters x.0 (car_of x.1.0)
@@ -91,14 +94,21 @@ least_power entries = record {
 abbrev pub tuple_of : ℤ → List Entry → Tuple
 tuple_of id entries = record { id = id; entries = length entries; least = least_power entries }
 
-abbrev pub tuple : Table inside Tuple
-tuple = meaning (λ x. tuple_of x.0 x.1.0) (λ t. (t.id, (entries_of t, tt))) (holding (
+-- of up to so many entries: the declarations allow 128
+abbrev pub tuple_up_to : ℕ → Table inside Tuple
+tuple_up_to most = meaning (λ x. tuple_of x.0 x.1.0) (λ t. (t.id, (entries_of t, tt))) (holding (
     once SA_SCHEDULE_TUPLE_ID (simple integer TUPLE_ID_KIND)
-    ▷ once P_MAX_SCHEDULE (list_of P_MAX_SCHEDULE_ENTRY 1 128 schedule_entry)
+    ▷ once P_MAX_SCHEDULE (list_of P_MAX_SCHEDULE_ENTRY 1 most schedule_entry)
     ▷ nothing))
 
+abbrev pub tuple : Table inside Tuple
+tuple = tuple_up_to 128
+
+abbrev pub schedules_up_to : ℕ → Table inside (List Tuple)
+schedules_up_to most = list_of SA_SCHEDULE_TUPLE 1 3 (tuple_up_to most)
+
 abbrev pub schedules : Table inside (List Tuple)
-schedules = list_of SA_SCHEDULE_TUPLE 1 3 tuple
+schedules = schedules_up_to 128
 
 -- ---- of a post: where limits of both currents stand, those of AC count
 
@@ -136,16 +146,24 @@ limit_parts (limits.Ac notify nominal current) = inl (notify, (nominal, (current
 limit_parts (limits.Dc status current watts voltage least_current least_voltage ripple) =
     inr (status, (current, (watts, (voltage, (least_current, (least_voltage, (ripple, tt)))))))
 
-abbrev pub Parameters : Type 0
-Parameters = Processing × (Option (List Tuple) × ((AcPost ⊎ DcPost) × Unit {0}))
+abbrev pub PostRow : Type 0
+PostRow = (AcPost ⊎ DcPost) × Unit {0}
 
-abbrev pub parameters_res : Table rows (Code × Parameters)
-parameters_res =
+abbrev pub post_row : Table rows PostRow
+post_row = either AC_EVSE_CHARGE_PARAMETER ac_post DC_EVSE_CHARGE_PARAMETER dc_post ▷ nothing
+
+abbrev pub Parameters : Type 0
+Parameters = Processing × (Option (List Tuple) × PostRow)
+
+abbrev pub parameters_res_up_to : ℕ → Table rows (Code × Parameters)
+parameters_res_up_to most =
     once RESPONSE_CODE response_code
     ▷ once EVSE_PROCESSING step
-    ▷ perhaps SA_SCHEDULE_LIST schedules
-    ▷ either AC_EVSE_CHARGE_PARAMETER ac_post DC_EVSE_CHARGE_PARAMETER dc_post
-    ▷ nothing
+    ▷ perhaps SA_SCHEDULE_LIST (schedules_up_to most)
+    ▷ post_row
+
+abbrev pub parameters_res : Table rows (Code × Parameters)
+parameters_res = parameters_res_up_to 128
 
 abbrev pub parameters_told : Parameters → Tell
 parameters_told x = tell.ChargeParameters x.0 (option_map (λ tuples. record { items = tuples }) x.1.0) (limits_of x.1.1.0)

@@ -112,11 +112,11 @@ tuple_or_first (Some tuple) = tuple
 abbrev pub Status : Type 0
 Status = (Notify ⊎ DcStatus) × Unit {0}
 
+abbrev pub status_row : Table rows Status
+status_row = either AC_EVSE_STATUS ac_status DC_EVSE_STATUS dc_status ▷ nothing
+
 abbrev pub delivery_res : Table rows (Code × Status)
-delivery_res =
-    once RESPONSE_CODE response_code
-    ▷ either AC_EVSE_STATUS ac_status DC_EVSE_STATUS dc_status
-    ▷ nothing
+delivery_res = once RESPONSE_CODE response_code ▷ status_row
 
 abbrev pub status_told : Notify ⊎ DcStatus → PostStatus
 status_told (inl notify) = post.Ac notify

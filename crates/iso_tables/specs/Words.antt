@@ -61,6 +61,10 @@ messages =
 
 -- ---- the word of a tree
 
+-- by the first element of the body
+abbrev pub word_named : Option (ℕ × Inside) → Inside → Word
+word_named element own = frames.word_named messages element own
+
 abbrev pub word_in : Inside → Word
 word_in own = word_inside frame messages own
 

@@ -1,18 +1,9 @@
-//! The message of a word reads as that word but for watts that are dropped, and each reply of a post can be spelled (ISO 15118-2:2014).
-//! Each of these functions does nothing: its contract is the law.
+//! Each reply of a post can be spelled (ISO 15118-2:2014). The function does nothing: its contract is the law.
 //!
-//! Proved: `reads_as_written`: the message of a word reads as that word, but for the watts that a Value and its Multiplier drop
-//! (`written_words` has the definitions of what is dropped); `spells_replies`: each reply that a post gives under a plan within its rules
-//! can be spelled.
+//! Proved: `spells_replies`: each reply that a post gives under a plan within its rules can be spelled.
 #![tactic(auto)]
 
 ghost use Rattle.iso_word_laws.specs.Posts.{SpellsReplies, SpellsWaiting, SpellsTyped, SpellsTypedWaiting};
-ghost use Rattle.iso_word_laws.specs.Reading.{ReadsAsWritten};
-
-/// The message of a word reads as that word, but for the watts that a Value and its Multiplier drop.
-pub fn reads_as_written()
-    ensures { ReadsAsWritten }
-{}
 
 /// Each reply that a post gives under a plan within its rules can be spelled: that to a request, and that to PowerDelivery Start which
 /// waited for the contactor. What they have of the session and of the request is bounded by the types of those, or by the reply's own.
@@ -22,5 +13,3 @@ pub fn spells_replies()
     ensures typed { SpellsTyped }
     ensures typed_waiting { SpellsTypedWaiting }
 {}
-
-pub use iso_words;

@@ -1,5 +1,3 @@
-pub mod SetupMessages
-pub mod ParameterMessages
-pub mod PowerMessages
+pub mod Schedules
 pub mod Messages
 pub mod Spellable

@@ -1,10 +1,13 @@
 //! The message of a neutral word (ISO 15118-2:2014, 8.3).
 
-ghost use Rattle.std.specs.Prelude.{◌≡◌};
+ghost use Rattle.std.specs.Prelude.{◌≡◌, IfSome, Some};
+ghost use Rattle.exi_bits.specs.Lent.{items_of};
+ghost use Rattle.session_words.specs.declared.word.Ask.TheVariants as asks;
+ghost use Rattle.session_words.specs.declared.word.Tell.TheVariants as tells;
 ghost use Rattle.session_words.specs.declared.word.Word.TheVariants as words;
-ghost use Rattle.iso_message.specs.declared.message.BodyElement.TheVariants as elements;
-ghost use Rattle.iso_word_messages.specs.Messages.{LendsEvse, LendsIf, IsRequestElement, IsReplyElement, IsMessageOf, LendsSession, message_with as message_as};
-ghost use Rattle.iso_word_messages.specs.Spellable.{CanAsk, CanTell, CanSpell};
+ghost use Rattle.iso_message.specs.declared.message.BodyElement.TheVariants.{Brief};
+ghost use Rattle.iso_word_messages.specs.Messages.{IsAskOf, IsTellOf, IsMessageOf, IsMessageOfAny, message_with as message_as};
+ghost use Rattle.iso_word_messages.specs.Spellable.{AreTenths, AreWatts, CanEvse, IsSomeEvse, CanAsk, CanTell, CanSpell};
 
 use crate::parameter_messages::{parameters_req, parameters_res};
 use crate::power_messages::{
@@ -13,40 +16,95 @@ use crate::power_messages::{
 };
 use crate::setup_messages::{
     authorization_req, authorization_res, detail_req, detail_res, discovery_req, discovery_res,
-    selection_req, setup_req, setup_res, stop_req,
+    selection_req, selection_res, setup_req, setup_res, stop_req, stop_res,
 };
 use iso_delivery::ChargingStatusReq;
 use iso_message::{Body, BodyElement, BriefElement, IsoMessage};
 use iso_parts::Header;
-use iso_setup::{PaymentServiceSelectionRes, SessionStopRes};
-use iso_values::codes::response_code;
-use message_parts::{Binary, Text};
-use session_words::{Ask, Code, EvseId, Reply, SessionId, Tell, Word};
+use message_parts::Binary;
+use session_words::{
+    Amount, Ask, Code, DcStatus, EvseId, Notify, Reply, Request, SessionId, Tell, Word,
+};
 
-/// The text of an EVSEID; none of that of DIN.
-fn evse_text(id: &EvseId) -> Text<'_>
-    ensures { LendsEvse id.now result }
+/// The element of a SessionSetupRes.
+fn setup_reply<'a>(code: Code, id: &'a EvseId) -> BodyElement<'a>
+    requires { CanEvse id.now }
+    ensures { IsTellOf code (tells.SessionSetup id.now) result }
 {
     match id {
-        EvseId::Text(text) => Text::Written(text.as_str()),
-        EvseId::Bytes(_) => Text::Written(""),
+        EvseId::Text(text) => {
+            BodyElement::Brief(BriefElement::SessionSetupRes(setup_res(code, text.as_str())))
+        }
+        EvseId::Bytes(_) => unreachable!(),
     }
 }
 
-/// The text of an EVSEID, where there is one.
-fn evse_text_if(id: &Option<EvseId>) -> Text<'_>
-    ensures { LendsIf id.now result }
+/// The element of a CurrentDemandRes.
+fn demand_reply<'a>(
+    code: Code,
+    status: DcStatus,
+    voltage: Amount,
+    current: Amount,
+    current_cut: bool,
+    voltage_cut: bool,
+    watts_cut: bool,
+    most_voltage: Option<Amount>,
+    most_current: Option<Amount>,
+    most_watts: Option<Amount>,
+    id: &'a Option<EvseId>,
+) -> BodyElement<'a>
+    requires voltage { AreTenths voltage }
+    requires current { AreTenths current }
+    requires most_voltage { IfSome most_voltage AreTenths }
+    requires most_current { IfSome most_current AreTenths }
+    requires most_watts { IfSome most_watts AreWatts }
+    requires id { IsSomeEvse id.now }
+    ensures { IsTellOf code (tells.CurrentDemand status voltage current current_cut voltage_cut watts_cut most_voltage most_current most_watts id.now) result }
 {
     match id {
-        Some(id) => evse_text(id),
-        None => Text::Written(""),
+        Some(EvseId::Text(text)) => BodyElement::Brief(BriefElement::CurrentDemandRes(demand_res(
+            code,
+            status,
+            voltage,
+            current,
+            current_cut,
+            voltage_cut,
+            watts_cut,
+            most_voltage,
+            most_current,
+            most_watts,
+            text.as_str(),
+        ))),
+        _ => unreachable!(),
+    }
+}
+
+/// The element of a ChargingStatusRes.
+fn charging_reply<'a>(
+    code: Code,
+    notify: Notify,
+    id: &'a EvseId,
+    current: Option<Amount>,
+) -> BodyElement<'a>
+    requires id { CanEvse id.now }
+    requires current { IfSome current AreTenths }
+    ensures { IsTellOf code (tells.ChargingStatus notify id.now current) result }
+{
+    match id {
+        EvseId::Text(text) => BodyElement::Brief(BriefElement::ChargingStatusRes(charging_res(
+            code,
+            notify,
+            text.as_str(),
+            current,
+        ))),
+        EvseId::Bytes(_) => unreachable!(),
     }
 }
 
 /// The element of a request, which is brief.
 fn request_element<'a>(ask: &'a Ask) -> BriefElement<'a>
     requires { CanAsk ask.now }
-    ensures { IsRequestElement ask.now (elements.Brief result) }
+    ensures { IsAskOf ask.now (Brief result) }
 {
     match ask {
         Ask::SessionSetup { car } => {
@@ -92,14 +150,10 @@ fn request_element<'a>(ask: &'a Ask) -> BriefElement<'a>
 /// The element of a reply.
 fn reply_element<'a>(code: Code, tell: &'a Tell) -> BodyElement<'a>
     requires { CanTell tell.now }
-    ensures { IsReplyElement code tell.now result }
+    ensures { IsTellOf code tell.now result }
 {
-    let code = response_code(code);
     match tell {
-        Tell::SessionSetup { evse } => BodyElement::Brief(BriefElement::SessionSetupRes(setup_res(
-            code,
-            evse_text(evse),
-        ))),
+        Tell::SessionSetup { evse } => setup_reply(code, evse),
         Tell::ServiceDiscovery { free, modes } => {
             BodyElement::ServiceDiscoveryRes(discovery_res(code, *free, modes))
         }
@@ -107,11 +161,7 @@ fn reply_element<'a>(code: Code, tell: &'a Tell) -> BodyElement<'a>
             code, *service,
         )),
         Tell::PaymentSelection => {
-            BodyElement::Brief(BriefElement::PaymentServiceSelectionRes(
-                PaymentServiceSelectionRes {
-                    response_code: code,
-                },
-            ))
+            BodyElement::Brief(BriefElement::PaymentServiceSelectionRes(selection_res(code)))
         }
         Tell::Authorization { processing } => {
             BodyElement::Brief(BriefElement::AuthorizationRes(authorization_res(code, *processing)))
@@ -150,7 +200,7 @@ fn reply_element<'a>(code: Code, tell: &'a Tell) -> BodyElement<'a>
             most_current,
             most_watts,
             evse,
-        } => BodyElement::Brief(BriefElement::CurrentDemandRes(demand_res(
+        } => demand_reply(
             code,
             *status,
             *voltage,
@@ -161,32 +211,25 @@ fn reply_element<'a>(code: Code, tell: &'a Tell) -> BodyElement<'a>
             *most_voltage,
             *most_current,
             *most_watts,
-            evse_text_if(evse),
-        ))),
+            evse,
+        ),
         Tell::ChargingStatus {
             notify,
             evse,
             current,
-        } => BodyElement::Brief(BriefElement::ChargingStatusRes(charging_res(
-            code,
-            *notify,
-            evse_text(evse),
-            *current,
-        ))),
+        } => charging_reply(code, *notify, evse, *current),
         Tell::WeldingDetection { status, voltage } => {
             BodyElement::Brief(BriefElement::WeldingDetectionRes(welding_res(
                 code, *status, *voltage,
             )))
         }
-        Tell::SessionStop => BodyElement::Brief(BriefElement::SessionStopRes(SessionStopRes {
-            response_code: code,
-        })),
+        Tell::SessionStop => BodyElement::Brief(BriefElement::SessionStopRes(stop_res(code))),
     }
 }
 
 /// A message under this identifier, without a notification.
 fn message_with<'a>(session: &'a SessionId, element: BodyElement<'a>) -> IsoMessage<'a>
-    ensures session { LendsSession session.now result.header.session_id }
+    ensures session { items_of result.header.session_id.span ≡ session.now.bytes.items }
     ensures element { result ≡ message_as result.header.session_id (Some element.entry) }
 {
     IsoMessage {
@@ -200,7 +243,20 @@ fn message_with<'a>(session: &'a SessionId, element: BodyElement<'a>) -> IsoMess
     }
 }
 
-/// The message of a reply that the declarations can spell, lent from it: as `of_word` gives that of a word.
+/// The message of a request that the declarations can spell, lent from it, with the elements that a word doesn't keep: those of a car's
+/// requests.
+pub fn of_request(request: &Request) -> IsoMessage<'_>
+    requires { CanSpell (words.Request request.now) }
+    ensures { IsMessageOf (words.Request request.now) result }
+{
+    message_with(
+        &request.session,
+        BodyElement::Brief(request_element(&request.ask)),
+    )
+}
+
+/// The message of a reply that the declarations can spell, lent from it, with the elements that a word doesn't keep: those of the replies
+/// of a post (`reply_to` of `session_rules`).
 pub fn of_reply(reply: &Reply) -> IsoMessage<'_>
     requires { CanSpell (words.Reply reply.now) }
     ensures { IsMessageOf (words.Reply reply.now) result }
@@ -208,17 +264,14 @@ pub fn of_reply(reply: &Reply) -> IsoMessage<'_>
     message_with(&reply.session, reply_element(reply.code, &reply.tell))
 }
 
-/// The message of a word that the declarations can spell, lent from the word, with the elements that a word doesn't keep: those of the
-/// replies of a post (`reply_to` of `session_rules`), and those of a car's requests.
+/// The message of a neutral word that the declarations can spell, lent from it, with the elements that a word doesn't keep. One that says nothing
+/// is a message with an empty body.
 pub fn of_word(word: &Word) -> IsoMessage<'_>
     requires { CanSpell word.now }
-    ensures { IsMessageOf word.now result }
+    ensures { IsMessageOfAny word.now result }
 {
     match word {
-        Word::Request(request) => message_with(
-            &request.session,
-            BodyElement::Brief(request_element(&request.ask)),
-        ),
+        Word::Request(request) => of_request(request),
         Word::Reply(reply) => of_reply(reply),
         Word::Nothing => IsoMessage {
             header: Header {

@@ -1,7 +1,20 @@
 //! ChargeParameterDiscovery, as it is written of words (ISO 15118-2:2014, 8.4.3.8).
 
-ghost use Rattle.std.specs.Prelude.{◌≡◌, ◌≤◌, IfSome};
-ghost use Rattle.iso_word_messages.specs.ParameterMessages as rule;
+ghost use Rattle.std.specs.Prelude.{◌≡◌, ◌≤◌, ℕ, IfSome, [], ◌∷◌, map, pos};
+ghost use Rattle.std.specs.List.{range_with_len};
+ghost use Rattle.std.specs.Option.{option_map};
+ghost use Rattle.message_parts.specs.Contents.{Inside, one, mapped, trees_of};
+ghost use Rattle.session_words.specs.Amounts.{above_zero};
+ghost use Rattle.iso_parts.specs.declared.enumerations.UnitSymbol.TheVariants.{Wh};
+ghost use Rattle.iso_parameters.specs.Discovery.{charge_parameter_discovery_req_parts, charge_parameter_discovery_res_parts};
+ghost use Rattle.iso_parameters.specs.Limits.{ev_charge_parameter_name, ev_charge_parameter_inside, evse_charge_parameter_name, evse_charge_parameter_inside};
+ghost use Rattle.iso_schedules.specs.Schedules.{sa_schedules_name, sa_schedules_inside};
+ghost use Rattle.iso_schema.specs.declared.names.TheConstants.{SA_SCHEDULE_LIST};
+ghost use Rattle.iso_values.specs.Physical.{power_of as power_as};
+ghost use Rattle.word_tables.specs.Tables.{written};
+ghost use Rattle.iso_tables.specs.Values.{or_no_power};
+ghost use Rattle.iso_tables.specs.Parameters as table;
+ghost use Rattle.iso_word_messages.specs.Schedules as rule;
 ghost use Rattle.iso_word_messages.specs.Spellable.{CanCarLimits, CanPostLimits, CanTuple, CanTuples, IsSomeWatts, IsTupleNumber};
 
 use arrayvec::ArrayVec;
@@ -10,20 +23,21 @@ use iso_parameters::{
     ChargeParameterDiscoveryRes, DcEvChargeParameter, DcEvseChargeParameter, EvChargeParameter,
     EvseChargeParameter,
 };
-use iso_parts::{PhysicalValue, ResponseCode, UnitSymbol};
+use iso_parts::{PhysicalValue, UnitSymbol};
 use iso_schedules::{
     PMaxSchedule, PMaxScheduleEntry, RelativeTimeInterval, SaScheduleList, SaScheduleTuple,
     SaSchedules, TimeInterval,
 };
+use iso_values::codes::response_code;
 use iso_values::modes::energy_transfer_mode;
 use iso_values::physical::{current_of, nominal_of, power_if, power_of, voltage_of};
 use iso_values::states::evse_processing;
 use iso_values::statuses::{ac_evse_status, dc_ev_status, dc_evse_status};
-use session_words::{Amount, CarLimits, Mode, PostLimits, Processing, Tuple};
+use session_words::{Amount, CarLimits, Code, Mode, PostLimits, Processing, Tuple};
 
 /// No energy.
 fn no_energy() -> PhysicalValue
-    ensures { result ≡ rule.no_energy }
+    ensures { result ≡ record { multiplier = pos 0; unit = Wh; value = pos 0 } }
 {
     PhysicalValue {
         multiplier: 0,
@@ -33,9 +47,10 @@ fn no_energy() -> PhysicalValue
 }
 
 /// What a car can take.
+#[tactic(auto, using(crate::proofs::Values::volt_written, crate::proofs::Values::ampere_written, crate::proofs::Values::powers_written))]
 fn ev_parameter(limits: &CarLimits) -> EvChargeParameter
     requires { CanCarLimits limits.now }
-    ensures { result ≡ rule.ev_parameter limits.now }
+    ensures { trees_of (one (ev_charge_parameter_name result) (ev_charge_parameter_inside result) ∷ []) ≡ written table.car_row (table.car_parts limits.now, tt) }
 {
     match limits {
         CarLimits::Ac {
@@ -70,9 +85,10 @@ fn ev_parameter(limits: &CarLimits) -> EvChargeParameter
 }
 
 /// ChargeParameterDiscoveryReq.
+#[tactic(auto, using(crate::proofs::Values::mode_written))]
 pub(crate) fn parameters_req(mode: Mode, limits: &CarLimits) -> ChargeParameterDiscoveryReq
     requires { CanCarLimits limits.now }
-    ensures { result ≡ rule.parameters_req mode limits.now }
+    ensures { trees_of (charge_parameter_discovery_req_parts result) ≡ written table.parameters_req (mode, (table.car_parts limits.now, tt)) }
 {
     ChargeParameterDiscoveryReq {
         max_entries_sa_schedule_tuple: None,
@@ -84,7 +100,7 @@ pub(crate) fn parameters_req(mode: Mode, limits: &CarLimits) -> ChargeParameterD
 /// The greatest power, and none where a word has none.
 fn power_or_none(watts: Option<Amount>) -> PhysicalValue
     requires { IsSomeWatts watts }
-    ensures { result ≡ rule.power_or_none watts }
+    ensures { result ≡ power_as (or_no_power watts) }
 {
     match watts {
         Some(watts) => power_of(watts),
@@ -97,9 +113,10 @@ fn power_or_none(watts: Option<Amount>) -> PhysicalValue
 }
 
 /// What a post can give.
+#[tactic(auto, using(crate::proofs::Values::volt_written, crate::proofs::Values::ampere_written, crate::proofs::Values::watt_written, crate::proofs::Values::levels_written, crate::proofs::Values::status_written, crate::proofs::Values::notify_written))]
 fn evse_parameter(limits: &PostLimits) -> EvseChargeParameter
     requires { CanPostLimits limits.now }
-    ensures { result ≡ rule.evse_parameter limits.now }
+    ensures { trees_of (one (evse_charge_parameter_name result) (evse_charge_parameter_inside result) ∷ []) ≡ written table.post_row (table.limit_parts limits.now, tt) }
 {
     match limits {
         PostLimits::Ac {
@@ -149,7 +166,7 @@ fn entry_at(power: PhysicalValue, start: u32) -> PMaxScheduleEntry
 /// So many entries, from second 0 on, each of this power.
 fn entries_of(n: u32, power: PhysicalValue) -> ArrayVec<PMaxScheduleEntry, 128>
     requires { n ≤ 128 }
-    ensures { result.items ≡ rule.entries_of n power }
+    ensures { result.items ≡ map (rule.entry_at power) (range_with_len 0 n) }
 {
     let mut entries = ArrayVec::new();
     for start in 0..n {
@@ -161,7 +178,7 @@ fn entries_of(n: u32, power: PhysicalValue) -> ArrayVec<PMaxScheduleEntry, 128>
 /// The number of a schedule tuple.
 fn number_of(id: i16) -> u8
     requires { IsTupleNumber id }
-    ensures { result ≡ rule.number_of id }
+    ensures { result ≡ above_zero id }
 {
     id as u8
 }
@@ -182,7 +199,8 @@ fn schedule_tuple(tuple: &Tuple) -> SaScheduleTuple
 /// The schedules of a post.
 fn schedules_of(tuples: &ArrayVec<Tuple, 3>) -> SaSchedules
     requires { CanTuples tuples.now }
-    ensures { result ≡ rule.schedules_of tuples.now }
+    ensures name { sa_schedules_name result ≡ SA_SCHEDULE_LIST }
+    ensures inside { sa_schedules_inside result ≡ written table.schedules tuples.now.items }
 {
     let all = tuples.as_slice();
     let mut list = ArrayVec::new();
@@ -197,7 +215,8 @@ fn schedules_of(tuples: &ArrayVec<Tuple, 3>) -> SaSchedules
 /// The schedules of a post, where it tells them.
 fn schedules_if(schedule: &Option<ArrayVec<Tuple, 3>>) -> Option<SaSchedules>
     requires { IfSome schedule.now CanTuples }
-    ensures { result ≡ rule.schedules_if schedule.now }
+    ensures { mapped {Y = ℕ × Inside} (λ s. (sa_schedules_name s, sa_schedules_inside s)) result
+        ≡ option_map (λ ts. (SA_SCHEDULE_LIST, written table.schedules ts)) (option_map (λ v. v.items) schedule.now) }
 {
     match schedule {
         Some(tuples) => Some(schedules_of(tuples)),
@@ -206,18 +225,19 @@ fn schedules_if(schedule: &Option<ArrayVec<Tuple, 3>>) -> Option<SaSchedules>
 }
 
 /// ChargeParameterDiscoveryRes.
+#[tactic(auto, using(crate::proofs::Values::code_written, crate::proofs::Values::step_written, crate::proofs::Parts::schedules_written))]
 pub(crate) fn parameters_res(
-    code: ResponseCode,
+    code: Code,
     processing: Processing,
     schedule: &Option<ArrayVec<Tuple, 3>>,
     limits: &PostLimits,
 ) -> ChargeParameterDiscoveryRes
     requires schedule { IfSome schedule.now CanTuples }
     requires limits { CanPostLimits limits.now }
-    ensures { result ≡ rule.parameters_res code processing schedule.now limits.now }
+    ensures { trees_of (charge_parameter_discovery_res_parts result) ≡ written table.parameters_res (code, (processing, (option_map (λ tuples. tuples.items) schedule.now, (table.limit_parts limits.now, tt)))) }
 {
     ChargeParameterDiscoveryRes {
-        response_code: code,
+        response_code: response_code(code),
         evse_processing: evse_processing(processing),
         sa_schedules: schedules_if(schedule),
         evse_charge_parameter: evse_parameter(limits),

@@ -1,27 +1,32 @@
 //! Messages of charging, as they are written of words (ISO 15118-2:2014, 8.4.3.9, 8.4.4 and 8.4.5).
 
-ghost use Rattle.std.specs.Prelude.{◌≡◌, IfSome};
-ghost use Rattle.iso_word_messages.specs.PowerMessages as rule;
+ghost use Rattle.std.specs.Prelude.{◌≡◌, IfSome, pos};
+ghost use Rattle.std.specs.Option.{option_map};
+ghost use Rattle.message_parts.specs.Contents.{mapped, holding, trees_of};
+ghost use Rattle.iso_delivery.specs.Delivery.{profile_entry_parts, charging_profile_parts, power_delivery_req_parts, power_delivery_res_parts, charging_status_res_parts};
+ghost use Rattle.iso_power.specs.Charging.{cable_check_req_parts, cable_check_res_parts, pre_charge_req_parts, pre_charge_res_parts, current_demand_req_parts, current_demand_res_parts, welding_detection_req_parts, welding_detection_res_parts};
+ghost use Rattle.word_tables.specs.Tables.{written};
+ghost use Rattle.iso_tables.specs.Power as table;
 ghost use Rattle.iso_word_messages.specs.Spellable.{AreTenths, AreWatts, IsSomeTuple};
 
 use arrayvec::ArrayVec;
 use iso_delivery::{
     ChargingProfile, ChargingStatusRes, PowerDeliveryReq, PowerDeliveryRes, ProfileEntry,
 };
-use iso_parts::ResponseCode;
 use iso_power::{
     CableCheckReq, CableCheckRes, CurrentDemandReq, CurrentDemandRes, PreChargeReq, PreChargeRes,
     WeldingDetectionReq, WeldingDetectionRes,
 };
+use iso_values::codes::response_code;
 use iso_values::physical::{current_if, current_of, power_if, power_of, voltage_if, voltage_of};
 use iso_values::states::{charge_progress, evse_processing};
 use iso_values::statuses::{ac_evse_status, dc_ev_status, dc_evse_status, evse_status};
 use message_parts::Text;
-use session_words::{Amount, DcStatus, Notify, PostStatus, Processing, Progress};
+use session_words::{Amount, Code, DcStatus, Notify, PostStatus, Processing, Progress};
 
 /// CableCheckReq.
 pub(crate) fn cable_check_req(ready: bool, soc: u8) -> CableCheckReq
-    ensures { result ≡ rule.cable_check_req ready soc }
+    ensures { trees_of (cable_check_req_parts result) ≡ written table.car_alone ((ready, (soc, tt)), tt) }
 {
     CableCheckReq {
         dc_ev_status: dc_ev_status(ready, soc),
@@ -29,25 +34,23 @@ pub(crate) fn cable_check_req(ready: bool, soc: u8) -> CableCheckReq
 }
 
 /// CableCheckRes.
-pub(crate) fn cable_check_res(
-    code: ResponseCode,
-    status: DcStatus,
-    processing: Processing,
-) -> CableCheckRes
-    ensures { result ≡ rule.cable_check_res code status processing }
+#[tactic(auto, using(crate::proofs::Values::code_written, crate::proofs::Values::levels_written, crate::proofs::Values::status_written, crate::proofs::Values::notify_written, crate::proofs::Values::step_written))]
+pub(crate) fn cable_check_res(code: Code, status: DcStatus, processing: Processing) -> CableCheckRes
+    ensures { trees_of (cable_check_res_parts result) ≡ written table.cable_check_res (code, (status, (processing, tt))) }
 {
     CableCheckRes {
-        response_code: code,
+        response_code: response_code(code),
         dc_evse_status: dc_evse_status(status),
         evse_processing: evse_processing(processing),
     }
 }
 
 /// PreChargeReq.
+#[tactic(auto, using(crate::proofs::Values::volt_written, crate::proofs::Values::ampere_written))]
 pub(crate) fn pre_charge_req(ready: bool, soc: u8, voltage: Amount, current: Amount) -> PreChargeReq
     requires voltage { AreTenths voltage }
     requires current { AreTenths current }
-    ensures { result ≡ rule.pre_charge_req ready soc voltage current }
+    ensures { trees_of (pre_charge_req_parts result) ≡ written table.pre_charge_req ((ready, (soc, tt)), (voltage, (current, tt))) }
 {
     PreChargeReq {
         dc_ev_status: dc_ev_status(ready, soc),
@@ -57,21 +60,23 @@ pub(crate) fn pre_charge_req(ready: bool, soc: u8, voltage: Amount, current: Amo
 }
 
 /// PreChargeRes.
-pub(crate) fn pre_charge_res(code: ResponseCode, status: DcStatus, voltage: Amount) -> PreChargeRes
+#[tactic(auto, using(crate::proofs::Values::code_written, crate::proofs::Values::levels_written, crate::proofs::Values::status_written, crate::proofs::Values::notify_written, crate::proofs::Values::volt_written))]
+pub(crate) fn pre_charge_res(code: Code, status: DcStatus, voltage: Amount) -> PreChargeRes
     requires { AreTenths voltage }
-    ensures { result ≡ rule.pre_charge_res code status voltage }
+    ensures { trees_of (pre_charge_res_parts result) ≡ written table.present_voltage (code, (status, (voltage, tt))) }
 {
     PreChargeRes {
-        response_code: code,
+        response_code: response_code(code),
         dc_evse_status: dc_evse_status(status),
         evse_present_voltage: voltage_of(voltage),
     }
 }
 
 /// This power from second 0 on.
+#[tactic(auto, using(crate::proofs::Values::watt_written))]
 fn profile_entry(power: Amount) -> ProfileEntry
     requires { AreWatts power }
-    ensures { result ≡ rule.profile_entry power }
+    ensures { holding (profile_entry_parts result) ≡ written table.profile_entry power }
 {
     ProfileEntry {
         charging_profile_entry_start: 0,
@@ -83,7 +88,7 @@ fn profile_entry(power: Amount) -> ProfileEntry
 /// A profile of one entry.
 fn profile_of(power: Amount) -> ChargingProfile
     requires { AreWatts power }
-    ensures { result ≡ rule.profile_of power }
+    ensures { holding (charging_profile_parts result) ≡ written table.profile power }
 {
     let mut entries = ArrayVec::new();
     entries.push(profile_entry(power));
@@ -95,7 +100,7 @@ fn profile_of(power: Amount) -> ChargingProfile
 /// A profile, where there is one.
 fn profile_if(power: Option<Amount>) -> Option<ChargingProfile>
     requires { IfSome power AreWatts }
-    ensures { result ≡ rule.profile_if power }
+    ensures { mapped (λ p. holding (charging_profile_parts p)) result ≡ option_map (λ p. written table.profile p) power }
 {
     match power {
         Some(power) => Some(profile_of(power)),
@@ -104,9 +109,10 @@ fn profile_if(power: Option<Amount>) -> Option<ChargingProfile>
 }
 
 /// The number of a schedule tuple.
+#[tactic(auto, using(crate::proofs::Values::number_written))]
 fn tuple_number(tuple: Option<i16>) -> u8
     requires { IsSomeTuple tuple }
-    ensures { result ≡ rule.tuple_number tuple }
+    ensures { pos result ≡ table.tuple_or_first tuple }
 {
     match tuple {
         Some(tuple) => tuple as u8,
@@ -115,6 +121,7 @@ fn tuple_number(tuple: Option<i16>) -> u8
 }
 
 /// PowerDeliveryReq.
+#[tactic(auto, using(crate::proofs::Values::progress_written))]
 pub(crate) fn delivery_req(
     progress: Progress,
     tuple: Option<i16>,
@@ -122,7 +129,7 @@ pub(crate) fn delivery_req(
 ) -> PowerDeliveryReq
     requires tuple { IsSomeTuple tuple }
     requires profile { IfSome profile AreWatts }
-    ensures { result ≡ rule.delivery_req progress tuple profile }
+    ensures { trees_of (power_delivery_req_parts result) ≡ written table.delivery_req (progress, (table.tuple_or_first tuple, (profile, tt))) }
 {
     PowerDeliveryReq {
         charge_progress: charge_progress(progress),
@@ -133,20 +140,22 @@ pub(crate) fn delivery_req(
 }
 
 /// PowerDeliveryRes.
-pub(crate) fn delivery_res(code: ResponseCode, status: PostStatus) -> PowerDeliveryRes
-    ensures { result ≡ rule.delivery_res code status }
+#[tactic(auto, using(crate::proofs::Values::code_written, crate::proofs::Parts::post_status_written))]
+pub(crate) fn delivery_res(code: Code, status: PostStatus) -> PowerDeliveryRes
+    ensures { trees_of (power_delivery_res_parts result) ≡ written table.delivery_res (code, (table.status_parts status, tt)) }
 {
     PowerDeliveryRes {
-        response_code: code,
+        response_code: response_code(code),
         evse_status: evse_status(status),
     }
 }
 
 /// CurrentDemandReq.
+#[tactic(auto, using(crate::proofs::Values::volt_written, crate::proofs::Values::ampere_written))]
 pub(crate) fn demand_req(ready: bool, soc: u8, voltage: Amount, current: Amount) -> CurrentDemandReq
     requires voltage { AreTenths voltage }
     requires current { AreTenths current }
-    ensures { result ≡ rule.demand_req ready soc voltage current }
+    ensures { trees_of (current_demand_req_parts result) ≡ written table.demand_req ((ready, (soc, tt)), (current, (voltage, tt))) }
 {
     CurrentDemandReq {
         dc_ev_status: dc_ev_status(ready, soc),
@@ -163,8 +172,9 @@ pub(crate) fn demand_req(ready: bool, soc: u8, voltage: Amount, current: Amount)
 }
 
 /// CurrentDemandRes: schedule tuple 1, and no meter.
+#[tactic(auto, using(crate::proofs::Values::code_written, crate::proofs::Values::levels_written, crate::proofs::Values::status_written, crate::proofs::Values::notify_written, crate::proofs::Values::volt_written, crate::proofs::Values::ampere_written, crate::proofs::Values::voltages_written, crate::proofs::Values::currents_written, crate::proofs::Values::powers_written))]
 pub(crate) fn demand_res<'a>(
-    code: ResponseCode,
+    code: Code,
     status: DcStatus,
     voltage: Amount,
     current: Amount,
@@ -174,17 +184,17 @@ pub(crate) fn demand_res<'a>(
     most_voltage: Option<Amount>,
     most_current: Option<Amount>,
     most_watts: Option<Amount>,
-    evse: Text<'a>,
+    evse: &'a str,
 ) -> CurrentDemandRes<'a>
     requires voltage { AreTenths voltage }
     requires current { AreTenths current }
     requires most_voltage { IfSome most_voltage AreTenths }
     requires most_current { IfSome most_current AreTenths }
     requires most_watts { IfSome most_watts AreWatts }
-    ensures { result ≡ rule.demand_res code status voltage current current_cut voltage_cut watts_cut most_voltage most_current most_watts evse.entry }
+    ensures { trees_of (current_demand_res_parts result) ≡ written table.demand_res (code, (status, (voltage, (current, (current_cut, (voltage_cut, (watts_cut, (most_voltage, (most_current, (most_watts, (evse.now, tt))))))))))) }
 {
     CurrentDemandRes {
-        response_code: code,
+        response_code: response_code(code),
         dc_evse_status: dc_evse_status(status),
         evse_present_voltage: voltage_of(voltage),
         evse_present_current: current_of(current),
@@ -194,7 +204,7 @@ pub(crate) fn demand_res<'a>(
         evse_maximum_voltage_limit: voltage_if(most_voltage),
         evse_maximum_current_limit: current_if(most_current),
         evse_maximum_power_limit: power_if(most_watts),
-        evseid: evse,
+        evseid: Text::Written(evse),
         sa_schedule_tuple_id: 1,
         meter_info: None,
         receipt_required: None,
@@ -202,18 +212,19 @@ pub(crate) fn demand_res<'a>(
 }
 
 /// ChargingStatusRes: schedule tuple 1, and no meter.
+#[tactic(auto, using(crate::proofs::Values::code_written, crate::proofs::Values::notify_written, crate::proofs::Values::currents_written))]
 pub(crate) fn charging_res<'a>(
-    code: ResponseCode,
+    code: Code,
     notify: Notify,
-    evse: Text<'a>,
+    evse: &'a str,
     current: Option<Amount>,
 ) -> ChargingStatusRes<'a>
     requires { IfSome current AreTenths }
-    ensures { result ≡ rule.charging_res code notify evse.entry current }
+    ensures { trees_of (charging_status_res_parts result) ≡ written table.charging_res (code, (evse.now, (current, (notify, tt)))) }
 {
     ChargingStatusRes {
-        response_code: code,
-        evseid: evse,
+        response_code: response_code(code),
+        evseid: Text::Written(evse),
         sa_schedule_tuple_id: 1,
         evse_max_current: current_if(current),
         meter_info: None,
@@ -224,7 +235,7 @@ pub(crate) fn charging_res<'a>(
 
 /// WeldingDetectionReq.
 pub(crate) fn welding_req(ready: bool, soc: u8) -> WeldingDetectionReq
-    ensures { result ≡ rule.welding_req ready soc }
+    ensures { trees_of (welding_detection_req_parts result) ≡ written table.car_alone ((ready, (soc, tt)), tt) }
 {
     WeldingDetectionReq {
         dc_ev_status: dc_ev_status(ready, soc),
@@ -232,16 +243,13 @@ pub(crate) fn welding_req(ready: bool, soc: u8) -> WeldingDetectionReq
 }
 
 /// WeldingDetectionRes.
-pub(crate) fn welding_res(
-    code: ResponseCode,
-    status: DcStatus,
-    voltage: Amount,
-) -> WeldingDetectionRes
+#[tactic(auto, using(crate::proofs::Values::code_written, crate::proofs::Values::levels_written, crate::proofs::Values::status_written, crate::proofs::Values::notify_written, crate::proofs::Values::volt_written))]
+pub(crate) fn welding_res(code: Code, status: DcStatus, voltage: Amount) -> WeldingDetectionRes
     requires { AreTenths voltage }
-    ensures { result ≡ rule.welding_res code status voltage }
+    ensures { trees_of (welding_detection_res_parts result) ≡ written table.present_voltage (code, (status, (voltage, tt))) }
 {
     WeldingDetectionRes {
-        response_code: code,
+        response_code: response_code(code),
         dc_evse_status: dc_evse_status(status),
         evse_present_voltage: voltage_of(voltage),
     }

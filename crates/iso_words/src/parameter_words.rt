@@ -1,15 +1,24 @@
 //! ChargeParameterDiscovery, as words have it (ISO 15118-2:2014, 8.4.3.8).
 
-ghost use Rattle.std.specs.Prelude.{◌≡◌, fold, map, min};
+ghost use Rattle.std.specs.Prelude.{◌≡◌, [], ◌∷◌, fold, map, min};
 ghost use Rattle.std.specs.List.{list_all};
-ghost use Rattle.iso_words.specs.ParameterWords as rule;
+ghost use Rattle.std.specs.Option.{option_map};
+ghost use Rattle.message_parts.specs.Contents.{one, holding};
+ghost use Rattle.tree_words.specs.Named.{children};
+ghost use Rattle.iso_parameters.specs.Discovery.{charge_parameter_discovery_req_parts, charge_parameter_discovery_res_parts};
+ghost use Rattle.iso_parameters.specs.Limits.{ev_charge_parameter_name, ev_charge_parameter_inside, evse_charge_parameter_name, evse_charge_parameter_inside};
+ghost use Rattle.iso_schedules.specs.Schedules.{sa_schedule_list_parts, sa_schedule_tuple_parts, sa_schedules_inside};
+ghost use Rattle.iso_values.specs.Physical.{power_in as power_as};
+ghost use Rattle.word_tables.specs.Tables.{read};
+ghost use Rattle.message_tables.specs.Values.{least_of};
+ghost use Rattle.iso_tables.specs.Parameters.{car_of, car_row, parameters_req, parameters_asked, tuple as tuple_table, schedules as schedules_table, limits_of, post_row, parameters_res, parameters_told};
 
 use arrayvec::ArrayVec;
 use iso_parameters::{
     ChargeParameterDiscoveryReq, ChargeParameterDiscoveryRes, EvChargeParameter,
     EvseChargeParameter,
 };
-use iso_schedules::{PMaxScheduleEntry, SaScheduleTuple, SaSchedules};
+use iso_schedules::{PMaxScheduleEntry, SaScheduleList, SaScheduleTuple, SaSchedules};
 use iso_values::modes::mode_of;
 use iso_values::physical::{current_in, power_in, voltage_in};
 use iso_values::states::{notify_of, processing_of};
@@ -17,8 +26,9 @@ use iso_values::statuses::dc_status_of;
 use session_words::{Amount, Ask, CarLimits, PostLimits, Tell, Tuple};
 
 /// What a car can take.
+#[tactic(auto, using(crate::proofs::Parts::ac_car_read, crate::proofs::Parts::dc_car_read))]
 fn car_limits(parameter: &EvChargeParameter) -> CarLimits
-    ensures { result ≡ rule.car_limits parameter.now }
+    ensures { result ≡ car_of (read car_row (children (holding (one (ev_charge_parameter_name parameter.now) (ev_charge_parameter_inside parameter.now) ∷ [])))).0 }
 {
     match parameter {
         EvChargeParameter::Ac(ac) => CarLimits::Ac {
@@ -37,8 +47,9 @@ fn car_limits(parameter: &EvChargeParameter) -> CarLimits
 }
 
 /// What ChargeParameterDiscoveryReq asks.
+#[tactic(auto, using(crate::proofs::Parts::parameters_req_read, crate::proofs::Values::mode_read))]
 pub(crate) fn parameters_ask(request: &ChargeParameterDiscoveryReq) -> Ask
-    ensures { result ≡ rule.parameters_ask request.now }
+    ensures { result ≡ parameters_asked (read parameters_req (children (holding (charge_parameter_discovery_req_parts request.now)))) }
 {
     Ask::ChargeParameters {
         mode: mode_of(request.requested_energy_transfer_mode),
@@ -47,8 +58,9 @@ pub(crate) fn parameters_ask(request: &ChargeParameterDiscoveryReq) -> Ask
 }
 
 /// What a post can give.
+#[tactic(auto, using(crate::proofs::Parts::ac_post_read, crate::proofs::Parts::dc_post_read))]
 fn post_limits(parameter: &EvseChargeParameter) -> PostLimits
-    ensures { result ≡ rule.post_limits parameter.now }
+    ensures { result ≡ limits_of (read post_row (children (holding (one (evse_charge_parameter_name parameter.now) (evse_charge_parameter_inside parameter.now) ∷ [])))).0 }
 {
     match parameter {
         EvseChargeParameter::Ac(ac) => PostLimits::Ac {
@@ -70,14 +82,14 @@ fn post_limits(parameter: &EvseChargeParameter) -> PostLimits
 
 /// The power of an entry.
 fn entry_power(entry: &PMaxScheduleEntry) -> Amount
-    ensures { result ≡ rule.entry_power entry.now }
+    ensures { result ≡ power_as entry.now.p_max }
 {
     power_in(entry.p_max)
 }
 
 /// The least of this power and those of entries.
 fn least_with(first: u32, entries: &[PMaxScheduleEntry]) -> u32
-    ensures { result ≡ fold min first (map (λ e. (rule.entry_power e).size) entries.now) }
+    ensures { result ≡ fold min first (map (λ e. (power_as e.p_max).size) entries.now) }
 {
     let mut least = first;
     for entry in entries {
@@ -88,7 +100,7 @@ fn least_with(first: u32, entries: &[PMaxScheduleEntry]) -> u32
 
 /// The least power of a schedule, 0 of none.
 fn least_watts(entries: &[PMaxScheduleEntry]) -> u32
-    ensures { result ≡ rule.least_of (map (λ e. (rule.entry_power e).size) entries.now) }
+    ensures { result ≡ least_of (map (λ e. (power_as e.p_max).size) entries.now) }
 {
     match entries {
         [] => 0,
@@ -98,7 +110,7 @@ fn least_watts(entries: &[PMaxScheduleEntry]) -> u32
 
 /// Whether the units of all entries are right.
 fn are_right(entries: &[PMaxScheduleEntry]) -> bool
-    ensures { result ≡ list_all (λ e. (rule.entry_power e).right) entries.now }
+    ensures { result ≡ list_all (λ e. (power_as e.p_max).right) entries.now }
 {
     for entry in entries {
         if !entry_power(entry).right {
@@ -110,7 +122,10 @@ fn are_right(entries: &[PMaxScheduleEntry]) -> bool
 
 /// The least power of a schedule, right where all its units are.
 fn least_power(entries: &[PMaxScheduleEntry]) -> Amount
-    ensures { result ≡ rule.least_power entries.now }
+    ensures { result ≡ record {
+      size = least_of (map (λ e. (power_as e.p_max).size) entries.now);
+      right = list_all (λ e. (power_as e.p_max).right) entries.now;
+    } }
 {
     Amount {
         size: least_watts(entries),
@@ -119,8 +134,9 @@ fn least_power(entries: &[PMaxScheduleEntry]) -> Amount
 }
 
 /// A schedule tuple.
+#[tactic(auto, using(crate::proofs::Parts::tuple_read))]
 fn tuple_in(tuple: &SaScheduleTuple) -> Tuple
-    ensures { result ≡ rule.tuple_in tuple.now }
+    ensures { result ≡ read tuple_table (holding (sa_schedule_tuple_parts tuple.now)) }
 {
     let entries = tuple.p_max_schedule.p_max_schedule_entry.as_slice();
     Tuple {
@@ -131,10 +147,9 @@ fn tuple_in(tuple: &SaScheduleTuple) -> Tuple
 }
 
 /// The schedules of a post.
-fn schedules_in(schedules: &SaSchedules) -> ArrayVec<Tuple, 3>
-    ensures { result ≡ rule.schedules_in schedules.now }
+fn schedules_in(list: &SaScheduleList) -> ArrayVec<Tuple, 3>
+    ensures { result.items ≡ read schedules_table (holding (sa_schedule_list_parts list.now)) }
 {
-    let SaSchedules::SaScheduleList(list) = schedules;
     let all = list.sa_schedule_tuple.as_slice();
     let mut tuples = ArrayVec::new();
     for tuple in all {
@@ -145,17 +160,18 @@ fn schedules_in(schedules: &SaSchedules) -> ArrayVec<Tuple, 3>
 
 /// The schedules of a post, where it tells them.
 fn schedules_if(schedules: &Option<SaSchedules>) -> Option<ArrayVec<Tuple, 3>>
-    ensures { result ≡ rule.schedules_if schedules.now }
+    ensures { result ≡ option_map (λ s. record { items = read schedules_table (sa_schedules_inside s) }) schedules.now }
 {
     match schedules {
-        Some(schedules) => Some(schedules_in(schedules)),
+        Some(SaSchedules::SaScheduleList(list)) => Some(schedules_in(list)),
         None => None,
     }
 }
 
 /// What ChargeParameterDiscoveryRes tells.
+#[tactic(auto, using(crate::proofs::Parts::parameters_res_read, crate::proofs::Values::step_read))]
 pub(crate) fn parameters_tell(reply: &ChargeParameterDiscoveryRes) -> Tell
-    ensures { result ≡ rule.parameters_tell reply.now }
+    ensures { result ≡ parameters_told (read parameters_res (children (holding (charge_parameter_discovery_res_parts reply.now)))).1 }
 {
     Tell::ChargeParameters {
         processing: processing_of(reply.evse_processing),

@@ -1,7 +1,17 @@
 //! The neutral word of a message (ISO 15118-2:2014, 8.3).
 
-ghost use Rattle.std.specs.Prelude.{◌≡◌};
-ghost use Rattle.iso_words.specs.Words as rule;
+ghost use Rattle.std.specs.Prelude.{◌≡◌, Some};
+ghost use Rattle.exi_documents.specs.Trees.{Ordinal};
+ghost use Rattle.message_parts.specs.Contents.{Of};
+ghost use Rattle.session_words.specs.declared.word.Word.TheVariants as word;
+ghost use Rattle.word_values.specs.Items.{bytes_of as bytes_in};
+ghost use Rattle.iso_parts.specs.Codes.{response_code_ordinal};
+ghost use Rattle.iso_message.specs.declared.message.BodyElement.TheVariants.{Brief};
+ghost use Rattle.iso_message.specs.Documents.{iso_tree};
+ghost use Rattle.word_tables.specs.Tables.{read};
+ghost use Rattle.message_tables.specs.Frame.{session_of};
+ghost use Rattle.iso_tables.specs.Codes.{response_code};
+ghost use Rattle.iso_tables.specs.Words.{word_of_tree};
 
 use crate::parameter_words::{parameters_ask, parameters_tell};
 use crate::power_words::{
@@ -20,7 +30,7 @@ use word_values::bytes_of;
 
 /// The identifier in a header.
 fn session_in(header: &Header<'_>) -> SessionId
-    ensures { result ≡ rule.session_in header.now }
+    ensures { result ≡ session_of (bytes_in 8 header.now.session_id) }
 {
     SessionId {
         bytes: bytes_of(&header.session_id),
@@ -29,14 +39,15 @@ fn session_in(header: &Header<'_>) -> SessionId
 
 /// A request under this identifier.
 fn asked(session: SessionId, ask: Ask) -> Word
-    ensures { result ≡ rule.asked session ask }
+    ensures { result ≡ word.Request (record { session = session; ask = ask }) }
 {
     Word::Request(Request { session, ask })
 }
 
 /// A reply under this identifier.
+#[tactic(auto, using(crate::proofs::Values::code_read))]
 fn told(session: SessionId, code: ResponseCode, tell: Tell) -> Word
-    ensures { result ≡ rule.told session code tell }
+    ensures { result ≡ word.Reply (record { session = session; code = read response_code (Of (Ordinal (response_code_ordinal code))); tell = tell }) }
 {
     Word::Reply(Reply {
         session,
@@ -45,10 +56,11 @@ fn told(session: SessionId, code: ResponseCode, tell: Tell) -> Word
     })
 }
 
-/// The word of a brief element under this identifier.
-fn brief_word(s: SessionId, element: &BriefElement<'_>) -> Word
-    ensures { result ≡ rule.brief_word s element.now }
+/// The word of a message with this header and this brief element.
+fn brief_word(header: &Header<'_>, element: &BriefElement<'_>) -> Word
+    ensures { result ≡ word_of_tree (iso_tree (record { header = header.now; body = record { element = Some (Brief element.now) } })) }
 {
+    let s = session_in(header);
     match element {
         BriefElement::SessionSetupReq(x) => asked(s, setup_ask(x)),
         BriefElement::SessionSetupRes(x) => told(s, x.response_code, setup_tell(x)),
@@ -78,12 +90,13 @@ fn brief_word(s: SessionId, element: &BriefElement<'_>) -> Word
     }
 }
 
-/// The word of a body's element under this identifier.
-fn element_word(s: SessionId, element: &BodyElement<'_>) -> Word
-    ensures { result ≡ rule.element_word s element.now }
+/// The word of a message with this header and this element.
+fn element_word(header: &Header<'_>, element: &BodyElement<'_>) -> Word
+    ensures { result ≡ word_of_tree (iso_tree (record { header = header.now; body = record { element = Some element.now } })) }
 {
+    let s = session_in(header);
     match element {
-        BodyElement::Brief(brief) => brief_word(s, brief),
+        BodyElement::Brief(brief) => brief_word(header, brief),
         BodyElement::ServiceDiscoveryRes(x) => told(s, x.response_code, discovery_tell(x)),
         BodyElement::ServiceDetailRes(x) => told(s, x.response_code, detail_tell(x)),
         BodyElement::ChargeParameterDiscoveryRes(x) => told(s, x.response_code, parameters_tell(x)),
@@ -93,10 +106,10 @@ fn element_word(s: SessionId, element: &BodyElement<'_>) -> Word
 /// The neutral word of a message: what a post or a car judges of it. Voltages and currents count in whole tenths and power in whole
 /// watts; a value below 0 counts as 0.
 pub fn to_word(message: &IsoMessage<'_>) -> Word
-    ensures { result ≡ rule.word_of message.now }
+    ensures { result ≡ word_of_tree (iso_tree message.now) }
 {
     match &message.body.element {
-        Some(element) => element_word(session_in(&message.header), element),
+        Some(element) => element_word(&message.header, element),
         None => Word::Nothing,
     }
 }

@@ -1,7 +1,7 @@
 //! The watts of a message of ISO 15118-2:2014 (8.3), by the element of its body.
 
 ghost use Rattle.std.specs.Prelude.{◌<◌, Some};
-ghost use Rattle.session_words.specs.declared.session.SessionId.{SessionId};
+ghost use Rattle.message_parts.specs.Contents.{Inside};
 ghost use Rattle.iso_elements.specs.Brief.{brief_element_name, brief_element_inside};
 ghost use Rattle.iso_message.specs.Message.{body_element_name, body_element_inside};
 ghost use Rattle.iso_message.specs.Documents.{iso_tree};
@@ -23,8 +23,8 @@ fn brief_watts(
 ) -> Option<WattValues>
     requires told { told < 32768000 }
     requires nominal { 0 < plan.now.nominal }
-    ensures { (session : SessionId)
-        → IsOfWatts (IsoElement session (Some (brief_element_name element.now, brief_element_inside element.now))) plan.now spoken told result }
+    ensures { (own : Inside)
+        → IsOfWatts (IsoElement own (Some (brief_element_name element.now, brief_element_inside element.now))) plan.now spoken told result }
 {
     match element {
         BriefElement::CurrentDemandRes(reply) => Some(demand(spoken, told, reply)),
@@ -62,8 +62,8 @@ fn element_watts(
 ) -> Option<WattValues>
     requires told { told < 32768000 }
     requires nominal { 0 < plan.now.nominal }
-    ensures { (session : SessionId)
-        → IsOfWatts (IsoElement session (Some (body_element_name element.now, body_element_inside element.now))) plan.now spoken told result }
+    ensures { (own : Inside)
+        → IsOfWatts (IsoElement own (Some (body_element_name element.now, body_element_inside element.now))) plan.now spoken told result }
 {
     match element {
         BodyElement::Brief(brief) => brief_watts(plan, spoken, told, brief),

@@ -1,10 +1,7 @@
 -- A payload has one fate: its messages tell the same schedules, of which each has one best profile.
-use Rattle.std.proofs.Common.{◌≡◌, ℕ, List, [], ◌∷◌, ◌++◌, Option, Some, None, true, false, refl, sym, ap, subst, ◌∙◌}
+use Rattle.std.proofs.Common.{◌≡◌, ℕ, List, [], ◌∷◌, ◌++◌, Option, Some, None, refl, sym, ap, subst, ◌∙◌}
 use Rattle.std.specs.Prelude.{All}
-use Rattle.std.specs.Option.{option_map}
 use Rattle.std.proofs.lemmas.List.Elements.{All-head, All-tail}
-use Rattle.message_parts.specs.declared.texts.Text.TheVariants.{Lent}
-use Rattle.tree_words.specs.Lending.{Lends}
 use Rattle.iso_schedules.specs.declared.schedules.SaScheduleTuple.{SaScheduleTuple}
 use Rattle.iso_schedules.specs.declared.schedules.SaSchedules.{SaSchedules}
 use Rattle.iso_schedules.specs.declared.schedules.SaSchedules.TheVariants.{SaScheduleList}
@@ -12,7 +9,6 @@ use Rattle.iso_message.specs.declared.message.BodyElement.{BodyElement}
 use Rattle.iso_message.specs.declared.message.BodyElement.TheVariants as element
 use Rattle.iso_message.specs.declared.message.IsoMessage.{IsoMessage}
 use Rattle.iso_message.specs.Documents.{IsIso}
-use Rattle.iso_trees.specs.Message.{settled_body_element, settled_iso_message}
 use Rattle.schedules.specs.declared.power.Step.{Step}
 use Rattle.schedules.specs.declared.power.Schedule.{Schedule}
 use Rattle.schedules.specs.declared.power.Need.{Need}
@@ -24,43 +20,12 @@ use Rattle.schedule_answers.specs.Choosing.{Misses, IsAnswerTo, IsAnswer, IsFaul
 use Rattle.schedule_answers.specs.declared.choosing.ScheduleFault.{ScheduleFault}
 use Rattle.schedule_answers.specs.declared.choosing.ScheduleFault.TheVariants.{NoSchedule, Unreached}
 use Rattle.schedule_answers.specs.Answers.{IsAnswerIn, IsFaultIn}
+use Rattle.schedule_answers.proofs.OneTelling.{same_told}
 
 -- ---- the messages of a payload
 
-blank : Lends
-blank = record {
-  text = λ chars. Lent (record { span = record { bits = []; bit = 0; count = 0; is_text = true }; text = refl });
-  binary = λ bytes. record { span = record { bits = []; bit = 0; count = 0; is_text = false }; binary = refl };
-}
-
-abbrev pub OneMessage : Type 0
-OneMessage = (l : Lends) (payload : List ℕ) (m n : IsoMessage) → IsIso m payload → IsIso n payload → settled_iso_message l m ≡ settled_iso_message l n
-
-abbrev settled : Option BodyElement → Option BodyElement
-settled e = option_map (λ x. settled_body_element blank x) e
-
-to_settled : (e : Option BodyElement) (tuples : List SaScheduleTuple) → TellsIn e tuples → TellsIn (settled e) tuples
-to_settled None tuples h = absurd h
-to_settled (Some (element.Brief x)) tuples h = absurd h
-to_settled (Some (element.ChargeParameterDiscoveryRes x)) tuples h = h
-to_settled (Some (element.ServiceDetailRes x)) tuples h = absurd h
-to_settled (Some (element.ServiceDiscoveryRes x)) tuples h = absurd h
-
-from_settled : (e : Option BodyElement) (tuples : List SaScheduleTuple) → TellsIn (settled e) tuples → TellsIn e tuples
-from_settled None tuples h = absurd h
-from_settled (Some (element.Brief x)) tuples h = absurd h
-from_settled (Some (element.ChargeParameterDiscoveryRes x)) tuples h = h
-from_settled (Some (element.ServiceDetailRes x)) tuples h = absurd h
-from_settled (Some (element.ServiceDiscoveryRes x)) tuples h = absurd h
-
-same_told : OneMessage → (payload : List ℕ) (m n : IsoMessage) (tuples : List SaScheduleTuple) → IsIso m payload → IsIso n payload
-    → TellsIn m.body.element tuples → TellsIn n.body.element tuples
-same_told law payload m n tuples p q h =
-    let same : settled m.body.element ≡ settled n.body.element = ap (λ (v : IsoMessage). v.body.element) (law blank payload m n p q) in
-    from_settled n.body.element tuples (subst (λ (e : Option BodyElement). TellsIn e tuples) same (to_settled m.body.element tuples h))
-
-tells : OneMessage → (payload : List ℕ) (m n : IsoMessage) (tuples : List SaScheduleTuple) → IsIso m payload → IsIso n payload → Tells m tuples → Tells n tuples
-tells law payload m n tuples p q h = record { told = same_told law payload m n tuples p q h.told; usable = h.usable }
+tells : (payload : List ℕ) (m n : IsoMessage) (tuples : List SaScheduleTuple) → IsIso m payload → IsIso n payload → Tells m tuples → Tells n tuples
+tells payload m n tuples p q h = record { told = same_told payload m n tuples p q h.told; usable = h.usable }
 
 -- ---- the schedules of a message
 
@@ -75,9 +40,9 @@ tells_one (Some (element.ChargeParameterDiscoveryRes x)) one other p q = lists_o
 tells_one (Some (element.ServiceDetailRes x)) one other p q = absurd p
 tells_one (Some (element.ServiceDiscoveryRes x)) one other p q = absurd p
 
-same_tuples : OneMessage → (payload : List ℕ) (m n : IsoMessage) (one other : List SaScheduleTuple) → IsIso m payload → IsIso n payload
+same_tuples : (payload : List ℕ) (m n : IsoMessage) (one other : List SaScheduleTuple) → IsIso m payload → IsIso n payload
     → Tells m one → Tells n other → one ≡ other
-same_tuples law payload m n one other p q h k = tells_one m.body.element one other h.told (same_told law payload n m other q p k.told)
+same_tuples payload m n one other p q h k = tells_one m.body.element one other h.told (same_told payload n m other q p k.told)
 
 -- ---- the first tuple that is answered
 
@@ -118,32 +83,32 @@ same_profile law need tuple p q a b =
 
 -- ---- fates
 
-pub same_answer : OneBest → OneMessage → (payload : List ℕ) (need : Need) (one other : Profile) → IsAnswerIn payload need one → IsAnswerIn payload need other → one ≡ other
-same_answer best law payload need one other p q =
+pub same_answer : OneBest → (payload : List ℕ) (need : Need) (one other : Profile) → IsAnswerIn payload need one → IsAnswerIn payload need other → one ≡ other
+same_answer best payload need one other p q =
     let a = p.answer.first in
     let b = q.answer.first in
-    let lists = same_tuples law payload p.message q.message p.answer.tuples q.answer.tuples p.spelled q.spelled p.answer.told q.answer.told in
+    let lists = same_tuples payload p.message q.message p.answer.tuples q.answer.tuples p.spelled q.spelled p.answer.told q.answer.told in
     let tuple = same_first need a.before b.before a.tuple b.tuple a.behind b.behind one other (sym a.split ∙ lists ∙ b.split) a.missed b.missed a.answer b.answer in
     same_profile best need a.tuple one other a.answer (subst (λ (t : SaScheduleTuple). IsAnswerTo need t other) (sym tuple) b.answer)
 
-answered_told : OneMessage → (payload : List ℕ) (need : Need) (fault : ScheduleFault) (m n : IsoMessage) (profile : Profile) → IsIso m payload → IsIso n payload
+answered_told : (payload : List ℕ) (need : Need) (fault : ScheduleFault) (m n : IsoMessage) (profile : Profile) → IsIso m payload → IsIso n payload
     → IsAnswer m need profile → IsFault n need fault → ⊥
-answered_told law payload need NoSchedule m n profile p q is none = none is.tuples (tells law payload m n is.tuples p q is.told)
-answered_told law payload need Unreached m n profile p q is none =
-    let lists = same_tuples law payload m n is.tuples none.tuples p q is.told none.told in
+answered_told payload need NoSchedule m n profile p q is none = none is.tuples (tells payload m n is.tuples p q is.told)
+answered_told payload need Unreached m n profile p q is none =
+    let lists = same_tuples payload m n is.tuples none.tuples p q is.told none.told in
     let first = is.first in
     let missed = middle (Misses need) first.before first.tuple first.behind (subst (All (Misses need)) (sym lists ∙ first.split) none.missed) in
     not_missed need first.tuple profile first.answer missed
 
-pub answer_apart : OneMessage → (payload : List ℕ) (need : Need) (profile : Profile) (fault : ScheduleFault) → IsAnswerIn payload need profile → IsFaultIn payload need fault → ⊥
-answer_apart law payload need profile fault p q = answered_told law payload need fault p.message q.message profile p.spelled q.spelled p.answer q.fault_is
+pub answer_apart : (payload : List ℕ) (need : Need) (profile : Profile) (fault : ScheduleFault) → IsAnswerIn payload need profile → IsFaultIn payload need fault → ⊥
+answer_apart payload need profile fault p q = answered_told payload need fault p.message q.message profile p.spelled q.spelled p.answer q.fault_is
 
-faults_one : OneMessage → (payload : List ℕ) (need : Need) (f g : ScheduleFault) (m n : IsoMessage) → IsIso m payload → IsIso n payload
+faults_one : (payload : List ℕ) (need : Need) (f g : ScheduleFault) (m n : IsoMessage) → IsIso m payload → IsIso n payload
     → IsFault m need f → IsFault n need g → f ≡ g
-faults_one law payload need NoSchedule NoSchedule m n p q one other = refl
-faults_one law payload need NoSchedule Unreached m n p q one other = absurd (one other.tuples (tells law payload n m other.tuples q p other.told))
-faults_one law payload need Unreached NoSchedule m n p q one other = absurd (other one.tuples (tells law payload m n one.tuples p q one.told))
-faults_one law payload need Unreached Unreached m n p q one other = refl
+faults_one payload need NoSchedule NoSchedule m n p q one other = refl
+faults_one payload need NoSchedule Unreached m n p q one other = absurd (one other.tuples (tells payload n m other.tuples q p other.told))
+faults_one payload need Unreached NoSchedule m n p q one other = absurd (other one.tuples (tells payload m n one.tuples p q one.told))
+faults_one payload need Unreached Unreached m n p q one other = refl
 
-pub same_fault : OneMessage → (payload : List ℕ) (need : Need) (one other : ScheduleFault) → IsFaultIn payload need one → IsFaultIn payload need other → one ≡ other
-same_fault law payload need one other p q = faults_one law payload need one other p.message q.message p.spelled q.spelled p.fault_is q.fault_is
+pub same_fault : (payload : List ℕ) (need : Need) (one other : ScheduleFault) → IsFaultIn payload need one → IsFaultIn payload need other → one ≡ other
+same_fault payload need one other p q = faults_one payload need one other p.message q.message p.spelled q.spelled p.fault_is q.fault_is

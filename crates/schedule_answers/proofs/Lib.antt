@@ -1,6 +1,9 @@
 pub mod Answering
+pub mod Elements
 pub mod Fates
+pub mod Held
 pub mod Payloads
 pub mod Requestable
 pub mod Requests
+pub mod OneTelling
 pub mod Usable

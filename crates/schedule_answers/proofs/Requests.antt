@@ -1,8 +1,6 @@
 -- The request of a profile holds what is declared, and its encoding is small.
-use Rattle.std.proofs.Common.{ℕ, ◌+◌, ◌*◌, ◌≤◌, List, [], ◌∷◌, length, map, pos, refl, sym, subst, arith, lit<, lit≤}
+use Rattle.std.proofs.Common.{◌*◌, ◌≤◌, List, [], ◌∷◌, length, map, refl, sym, subst, arith}
 use Rattle.std.specs.Prelude.{All, true}
-use Rattle.std.proofs.lemmas.Int.{ints}
-use Rattle.std.proofs.lemmas.List.Elements.{All-from_recursion}
 use Rattle.document_sizes.specs.Sizes.{inside_weight, each_weight}
 use Rattle.document_sizes.proofs.Documents.{document_fits}
 use Rattle.document_sizes.proofs.Parts.{plain_sum}
@@ -21,16 +19,11 @@ use Rattle.iso_message.specs.Documents.{iso_tree, iso_number, IsWithin, PassesBy
 use Rattle.iso_message.specs.declared.message.IsoMessage.{IsoMessage}
 use Rattle.iso_message.specs.declared.message.BodyElement.TheVariants.{Brief}
 use Rattle.iso_elements.specs.declared.brief.BriefElement.TheVariants as brief
-use Rattle.iso_word_messages.specs.Spellable.{IsByte, CanSession, IsTupleNumber}
 use Rattle.written_parts.proofs.Parts.{each_held, up_to_takes}
-use Rattle.iso_replies.proofs.Simple.{tuple_number}
-use Rattle.iso_replies.proofs.Values.{power_held}
-use Rattle.iso_replies.proofs.Replies.{message_fits}
-use Rattle.iso_reply_sizes.proofs.Replies.{IsLight, weight_of, message_light}
-use Rattle.iso_requests.proofs.Values.{unsigned_int, charge_progress}
 use Rattle.schedules.specs.declared.power.Step.{Step}
 use Rattle.schedules.specs.declared.power.Profile.{Profile}
-use Rattle.schedule_answers.specs.Requests.{no_session, CanWrite, entry_of, entries, request, CanRequest, IsRequestOf}
+use Rattle.schedule_answers.specs.Requests.{CanWrite, entry_of, entries, request, CanRequest, IsRequestOf}
+use Rattle.schedule_answers.proofs.Held.{unsigned_int, charge_progress, tuple_number, power_held, message_fits, weight_of, message_light}
 
 entry_held : (s : Step) → CanWrite s → HoldsTrees kinds PROFILE_ENTRY_KIND (holding (profile_entry_parts (entry_of s)))
 entry_held s can =
@@ -52,16 +45,13 @@ profile_held steps some few can =
       tt,
     )
 
-is_number : (n : ℕ) → 1 ≤ n → n ≤ 255 → IsTupleNumber (pos n)
-is_number n least most = (omega (arith, ints, least), omega (arith, ints, most))
-
 request_held : (p : Profile) → CanRequest p → p.tuple ≤ 255
     → HoldsTrees kinds POWER_DELIVERY_REQ_KIND (holding (power_delivery_req_parts (request p)))
 request_held p can most =
     holding_held kinds POWER_DELIVERY_REQ_KIND [] power_delivery_req [] (power_delivery_req_parts (request p)) refl tt (
       ((CHARGE_PROGRESS_KIND, refl, charge_progress Start), refl),
       (
-        ((TUPLE_ID_KIND, refl, tuple_number (pos p.tuple) (is_number p.tuple can.tuple most)), refl),
+        ((TUPLE_ID_KIND, refl, tuple_number p.tuple can.tuple most), refl),
         (
           ((CHARGING_PROFILE_KIND, refl, profile_held p.steps.items can.some can.few can.steps), refl),
           (refl, tt),
@@ -69,16 +59,10 @@ request_held p can most =
       ),
     )
 
-can_session : CanSession (record { bytes = record { items = no_session } })
-can_session = (
-  lit≤ tt,
-  All-from_recursion IsByte no_session (lit< tt, (lit< tt, (lit< tt, (lit< tt, (lit< tt, (lit< tt, (lit< tt, (lit< tt, tt)))))))),
-)
-
 pub request_within : (p : Profile) (m : IsoMessage) → CanRequest p → p.tuple ≤ 255 → IsRequestOf p m → IsWithin m
 request_within p m can most is =
     subst IsWithin (sym is.message_is)
-    (message_fits (record { bytes = record { items = no_session } }) m.header.session_id (Brief (brief.PowerDeliveryReq (request p))) can_session is.session
+    (message_fits m.header.session_id (Brief (brief.PowerDeliveryReq (request p))) is.session
     (((POWER_DELIVERY_REQ_KIND, refl, request_held p can most), refl), tt))
 
 -- ---- how many bits
@@ -93,12 +77,8 @@ profile_light steps few = omega (arith, plain_sum 6 (charging_profile_parts (ent
 request_light : (p : Profile) → length p.steps.items ≤ 24 → inside_weight 6 (holding (power_delivery_req_parts (request p))) ≤ 7600
 request_light p few = omega (arith, plain_sum 6 (power_delivery_req_parts (request p)), profile_light p.steps.items few)
 
-element_light : (p : Profile) → length p.steps.items ≤ 24 → IsLight 5 (Brief (brief.PowerDeliveryReq (request p)))
-element_light p few = omega (arith, request_light p few)
-
 pub request_small : (p : Profile) (m : IsoMessage) → CanRequest p → IsRequestOf p m → PassesBytes m 2048 → ⊥
 request_small p m can is passes =
-    let whole = message_light 5 (record { bytes = record { items = no_session } }) m.header.session_id (Brief (brief.PowerDeliveryReq (request p))) can_session is.session
-    (element_light p can.few) in
-    let few = subst (λ (n : IsoMessage). weight_of n ≤ 2500 + 1218 * 5) (sym is.message_is) whole in
+    let whole = message_light 7600 m.header.session_id (Brief (brief.PowerDeliveryReq (request p))) is.session (request_light p can.few) in
+    let few = subst (λ (n : IsoMessage). weight_of n ≤ 7800) (sym is.message_is) whole in
     document_fits 6 schema iso_number (iso_tree m) 2048 iso_narrow (omega (arith, few)) passes

@@ -9,7 +9,6 @@ ghost use Rattle.schedule_answers.specs.declared.choosing.ScheduleFault.{Schedul
 ghost use Rattle.schedule_answers.specs.Answers.{IsAnswerIn, IsFaultIn};
 
 use iso_codec::laws::messages_and_refusals;
-use iso_trees::messages_of_payloads;
 use schedules::one_best;
 
 /// A payload is refused, or one profile answers a need, or there is one reason why none does; and never two of these.
@@ -22,5 +21,4 @@ pub fn one_fate()
 {
     one_best();
     messages_and_refusals();
-    messages_of_payloads();
 }

@@ -1,5 +1,5 @@
 -- The reply of a service holds what is declared.
-use Rattle.std.proofs.Common.{◌≡◌, ℕ, ◌+◌, ◌-◌, ◌<◌, ◌≤◌, nat_le, Bool, true, false, if◌then◌else◌, List, [], ◌∷◌, length, map, ℤ, pos, negsuc, Option, Some, None, IsTrue, IsUtf8, chars, refl, ap, ◌∙◌, arith, lit<, lit≤}
+use Rattle.std.proofs.Common.{◌≡◌, ℕ, ◌+◌, ◌-◌, ◌<◌, ◌≤◌, nat_le, Bool, true, false, if◌then◌else◌, List, [], ◌∷◌, length, map, ℤ, pos, negsuc, Option, Some, None, IsTrue, IsUtf8, chars, refl, ap, ◌∙◌, arith}
 use Rattle.std.specs.Prelude.{All, IfSome}
 use Rattle.std.specs.Borrow.{Bor}
 use Rattle.std.specs.Int.{w16, w32}
@@ -8,7 +8,7 @@ use Rattle.std.specs.List.{AllByRecursion}
 use Rattle.std.proofs.lemmas.Bool.{leb-true, ltb-true, and_parts}
 use Rattle.std.proofs.lemmas.Int.{ints}
 use Rattle.std.proofs.lemmas.List.{length-map}
-use Rattle.std.proofs.lemmas.List.Elements.{All-from_recursion, recursion_from_All}
+use Rattle.std.proofs.lemmas.List.Elements.{recursion_from_All}
 use Rattle.exi_bits.specs.Lent.{items_of}
 use Rattle.exi_schema.specs.Plain.{perhaps as optional, up_to, at_least_one}
 use Rattle.exi_schema.specs.declared.tables.Datatype.TheVariants.{Bounded, Signed, Text as TextType}
@@ -34,11 +34,9 @@ use Rattle.iso_details.specs.declared.details.ServiceDetailRes.{ServiceDetailRes
 use Rattle.iso_message.specs.Documents.{IsWithin}
 use Rattle.iso_message.specs.declared.message.BodyElement.TheVariants as element
 use Rattle.iso_word_messages.specs.Messages.{message_with}
-use Rattle.iso_word_messages.specs.Spellable.{CanSession, IsByte}
 use Rattle.written_parts.proofs.Parts.{up_to_takes, at_least_one_takes}
-use Rattle.iso_replies.proofs.Simple.{truth, unsigned_short, response}
-use Rattle.iso_replies.proofs.Replies.{message_fits}
 use Rattle.schedule_answers.specs.Requests.{no_session}
+use Rattle.schedule_answers.proofs.Held.{truth, unsigned_short, response, message_fits}
 use Rattle.service_spec.specs.Texts.{is_a_name, is_word, has_name_length, is_a_text, is_plain, has_text_length}
 use Rattle.service_spec.specs.declared.ParameterSet.{ParameterSet as Offered}
 use Rattle.service_spec.specs.Services.{is_below}
@@ -173,14 +171,8 @@ reply_held r few list = record {
 
 -- ---- the message
 
-can_session : CanSession (record { bytes = record { items = no_session } })
-can_session = (
-  lit≤ tt,
-  All-from_recursion IsByte no_session (lit< tt, (lit< tt, (lit< tt, (lit< tt, (lit< tt, (lit< tt, (lit< tt, (lit< tt, tt)))))))),
-)
-
 pub message_within : (lent : Binary) (r : ServiceDetailRes) → items_of lent.span ≡ no_session → IsHeldReply r
     → IsWithin (message_with lent (Some (element.ServiceDetailRes r)))
 message_within lent r session held =
-    message_fits (record { bytes = record { items = no_session } }) lent (element.ServiceDetailRes r) can_session session
+    message_fits lent (element.ServiceDetailRes r) session
     (((SERVICE_DETAIL_RES_KIND, refl, held.held), refl), tt)

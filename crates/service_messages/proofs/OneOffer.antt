@@ -1,160 +1,156 @@
--- Messages of one tree offer the same sets: each is read with its texts lent in one way, which keeps their code points.
-use Rattle.std.proofs.Common.{◌≡◌, ℕ, List, [], ◌∷◌, map, Option, Some, None, refl, sym, ap, subst, ◌∙◌}
-use Rattle.std.specs.Prelude.{ℤ}
-use Rattle.std.specs.Option.{option_map}
-use Rattle.message_parts.specs.declared.texts.Text.{Text}
-use Rattle.message_parts.specs.declared.texts.Text.TheVariants as text
+-- Messages of one tree offer the same sets: tables read them of the tree, wherever its texts lie in a message.
+use Rattle.std.proofs.Common.{◌≡◌, ℕ, ◌==◌, Bool, false, ℤ, List, [], ◌∷◌, map, Option, Some, None, refl, sym, ◌∙◌, ap, ap₂, subst}
+use Rattle.message_parts.specs.Contents.{Inside, holding, holding_with, one}
 use Rattle.message_parts.specs.Texts.{chars_of}
+use Rattle.session_words.specs.Codes.{IsOkClass}
+use Rattle.session_words.specs.declared.code.Code.{Code}
+use Rattle.tree_words.specs.Leaves.{number_in}
+use Rattle.tree_words.specs.Named.{Children, children, head}
+use Rattle.tree_words.proofs.Held.{children_held}
+use Rattle.tree_words.proofs.Lists.{reads_each}
+use Rattle.iso_schema.specs.declared.kinds.TheConstants.{BOOLEAN_KIND, BYTE_KIND, SHORT_KIND, INT_KIND, TEXT64_KIND}
+use Rattle.iso_schema.specs.declared.names.TheConstants.{NAME, BOOL_VALUE, BYTE_VALUE, SHORT_VALUE, INT_VALUE, STRING_VALUE, PARAMETER, PARAMETER_SET, PARAMETER_SET_ID, RESPONSE_CODE, SERVICE_DETAIL_RES, SERVICE_PARAMETER_LIST}
 use Rattle.iso_parts.specs.declared.codes.ResponseCode.{ResponseCode}
-use Rattle.iso_details.specs.declared.details.ParameterValue.{ParameterValue}
-use Rattle.iso_details.specs.declared.details.ParameterValue.TheVariants as value
+use Rattle.iso_details.specs.Details.{parameter_value_name, parameter_value_inside, parameter_given, parameter_parts, parameter_set_parts, service_parameter_list_parts, service_detail_res_parts}
 use Rattle.iso_details.specs.declared.details.Parameter.{Parameter}
 use Rattle.iso_details.specs.declared.details.ParameterSet.{ParameterSet}
+use Rattle.iso_details.specs.declared.details.ParameterValue.{ParameterValue}
+use Rattle.iso_details.specs.declared.details.ParameterValue.TheVariants as value
 use Rattle.iso_details.specs.declared.details.ServiceParameterList.{ServiceParameterList}
+use Rattle.iso_elements.specs.Brief.{brief_element_name}
+use Rattle.iso_elements.specs.declared.brief.BriefElement.{BriefElement}
+use Rattle.iso_elements.specs.declared.brief.BriefElement.TheVariants as brief
+use Rattle.iso_message.specs.Documents.{iso_tree, IsIso}
+use Rattle.iso_message.specs.Message.{body_element_inside}
 use Rattle.iso_message.specs.declared.message.BodyElement.{BodyElement}
 use Rattle.iso_message.specs.declared.message.BodyElement.TheVariants as element
 use Rattle.iso_message.specs.declared.message.IsoMessage.{IsoMessage}
-use Rattle.iso_message.specs.Documents.{iso_tree, IsIso}
 use Rattle.iso_values.specs.Codes.{code_of}
-use Rattle.session_words.specs.Codes.{IsOkClass}
-use Rattle.tree_words.specs.Lending.{Lends}
-use Rattle.iso_trees.specs.Details.{settled_parameter_value, settled_parameter, settled_parameter_set, settled_service_parameter_list}
-use Rattle.iso_trees.specs.Message.{settled_body_element, settled_iso_message}
-use Rattle.iso_trees.proofs.Trees.{one_message, one_payload_message}
-use Rattle.service_spec.specs.Services.{Content, Truth, Number, Text as TextContent, Said, SaidSet}
+use Rattle.word_tables.specs.Tables.{Table, inside, rows, flag, integer, text, simple, attributed, nothing, perhaps, no_attributes, attribute_row, or_empty, read, ◌▷◌}
+use Rattle.iso_tables.specs.Codes.{response_code}
+use Rattle.iso_words.proofs.Values.{code_read}
+use Rattle.schedule_answers.proofs.Elements.{read_if, in_body, one_tree, same_tree}
+use Rattle.service_spec.specs.Services.{Content, Truth, Number, Text, Said, SaidSet}
 use Rattle.service_messages.specs.Offers.{content_in, said_in, said_set_in, sets_in, OffersIn, Offers}
 
--- each text as one to be written, of which its code points are kept
-abbrev kept_chars : Text → List ℕ
-kept_chars (text.Written written) = written.now
-kept_chars (text.Lent lent) = []
+-- ---- a parameter: its name, and the value that is there
 
-abbrev lends_of : IsoMessage → Lends
-lends_of m = record { text = λ chars. text.Written (record { ref_ptr = (0, 0); now = chars }); binary = λ bytes. m.header.session_id }
+abbrev Values : Type 0
+Values = Option Bool × (Option ℤ × (Option ℤ × (Option ℤ × (Option (List ℕ) × Unit {0}))))
 
--- ---- what is said, by the code points of texts
+abbrev values : Table rows Values
+values =
+    perhaps BOOL_VALUE (simple flag BOOLEAN_KIND)
+    ▷ perhaps BYTE_VALUE (simple integer BYTE_KIND)
+    ▷ perhaps SHORT_VALUE (simple integer SHORT_KIND)
+    ▷ perhaps INT_VALUE (simple integer INT_KIND)
+    ▷ perhaps STRING_VALUE (simple text TEXT64_KIND)
+    ▷ nothing
 
-abbrev content_by : (Text → List ℕ) → ParameterValue → Option Content
-content_by view (value.Bool truth) = Some (Truth truth)
-content_by view (value.Byte number) = Some (Number number)
-content_by view (value.Short number) = Some (Number number)
-content_by view (value.Int number) = Some (Number number)
-content_by view (value.Physical physical) = None
-content_by view (value.String string) = Some (TextContent (view string))
+abbrev parameter : Table inside ((List ℕ × Unit {0}) × Values)
+parameter = attributed (attribute_row NAME text TEXT64_KIND no_attributes) values
 
-abbrev said_at : List ℕ → Option Content → Said
-said_at name content = record { name = name; content = content }
+abbrev content_of : Values → Option Content
+content_of (Some b, more) = Some (Truth b)
+content_of (None, (Some n, more)) = Some (Number n)
+content_of (None, (None, (Some n, more))) = Some (Number n)
+content_of (None, (None, (None, (Some n, more)))) = Some (Number n)
+content_of (None, (None, (None, (None, (Some chars, more))))) = Some (Text chars)
+content_of (None, (None, (None, (None, (None, more))))) = None
 
-abbrev set_at : ℤ → List Said → SaidSet
-set_at id parameters = record { id = id; parameters = parameters }
+value_read : (v : ParameterValue)
+    → content_of (read values (children (holding (one (parameter_value_name v) (parameter_value_inside v) ∷ [])))) ≡ content_in v
+value_read (value.Bool x) = refl
+value_read (value.Byte x) = refl
+value_read (value.Short x) = refl
+value_read (value.Int x) = refl
+value_read (value.Physical x) = refl
+value_read (value.String x) = refl
 
-abbrev said_by : (Text → List ℕ) → Parameter → Said
-said_by view p = said_at (view p.name) (content_by view p.value)
+abbrev said : List ℕ → Option Content → Said
+said name content = record { name = name; content = content }
 
-abbrev set_by : (Text → List ℕ) → ParameterSet → SaidSet
-set_by view s = set_at s.parameter_set_id (map (said_by view) s.parameter.items)
+abbrev said_at : Inside → Said
+said_at i = said (read parameter i).0.0 (content_of (read parameter i).1)
 
-abbrev sets_by : (Text → List ℕ) → Option ServiceParameterList → List SaidSet
-sets_by view None = []
-sets_by view (Some list) = map (set_by view) list.parameter_set.items
+said_read : (p : Parameter) → said_at (holding_with (parameter_given p) (parameter_parts p)) ≡ said_in p
+said_read p = ap (said (chars_of p.name)) (value_read p.value)
 
-abbrev offer_by : (Text → List ℕ) → Option BodyElement → Option (ResponseCode × List SaidSet)
-offer_by view (Some (element.ServiceDetailRes reply)) = Some (reply.response_code, sets_by view reply.service_parameter_list)
-offer_by view _ = None
+-- ---- sets
 
--- ---- messages that lend their texts so say the same
+abbrev set_of : ℤ → List Said → SaidSet
+set_of id parameters = record { id = id; parameters = parameters }
 
-mapped : {A B C : Type 0} (f : B → C) (g : A → B) (h : A → C) → ((x : A) → f (g x) ≡ h x) → (xs : List A) → map f (map g xs) ≡ map h xs
-mapped f g h e [] = refl
-mapped {C = C} f g h e (x ∷ xs) = ap (λ (c : C). c ∷ map f (map g xs)) (e x) ∙ ap (λ (l : List C). h x ∷ l) (mapped f g h e xs)
+abbrev set_at : Inside → SaidSet
+set_at i = set_of (number_in (or_empty (head (children i PARAMETER_SET_ID)))) (map said_at (children i PARAMETER))
 
-module _ (m : IsoMessage) where
-  content_settled : (v : ParameterValue) → content_by kept_chars (settled_parameter_value (lends_of m) v) ≡ content_by chars_of v
-  content_settled (value.Bool truth) = refl
-  content_settled (value.Byte number) = refl
-  content_settled (value.Short number) = refl
-  content_settled (value.Int number) = refl
-  content_settled (value.Physical physical) = refl
-  content_settled (value.String string) = refl
+set_read : (s : ParameterSet) → set_at (holding (parameter_set_parts s)) ≡ said_set_in s
+set_read s =
+    ap (λ c. set_of s.parameter_set_id (map said_at (c PARAMETER))) (children_held [] (parameter_set_parts s))
+    ∙ ap (set_of s.parameter_set_id) (reads_each said_at (λ p. holding_with (parameter_given p) (parameter_parts p)) said_in said_read s.parameter.items)
 
-  said_settled : (p : Parameter) → said_by kept_chars (settled_parameter (lends_of m) p) ≡ said_by chars_of p
-  said_settled p = ap (said_at (chars_of p.name)) (content_settled p.value)
+abbrev sets_at : Option Inside → List SaidSet
+sets_at None = []
+sets_at (Some list) = map set_at (children list PARAMETER_SET)
 
-  set_settled : (s : ParameterSet) → set_by kept_chars (settled_parameter_set (lends_of m) s) ≡ set_by chars_of s
-  set_settled s =
-      ap (set_at s.parameter_set_id)
-      (mapped (said_by kept_chars) (λ (p : Parameter). settled_parameter (lends_of m) p) (said_by chars_of) said_settled s.parameter.items)
+list_read : (l : ServiceParameterList) → sets_at (Some (holding (service_parameter_list_parts l))) ≡ sets_in (Some l)
+list_read l =
+    ap (λ c. map set_at (c PARAMETER_SET)) (children_held [] (service_parameter_list_parts l))
+    ∙ reads_each set_at (λ s. holding (parameter_set_parts s)) said_set_in set_read l.parameter_set.items
 
-  sets_settled : (list : Option ServiceParameterList)
-      → sets_by kept_chars (option_map (λ (x : ServiceParameterList). settled_service_parameter_list (lends_of m) x) list) ≡ sets_by chars_of list
-  sets_settled None = refl
-  sets_settled (Some list) =
-      mapped (set_by kept_chars) (λ (s : ParameterSet). settled_parameter_set (lends_of m) s) (set_by chars_of) set_settled list.parameter_set.items
+-- ---- a reply
 
-  offer_settled : (e : Option BodyElement)
-      → offer_by kept_chars (option_map (λ (x : BodyElement). settled_body_element (lends_of m) x) e) ≡ offer_by chars_of e
-  offer_settled None = refl
-  offer_settled (Some (element.Brief x)) = refl
-  offer_settled (Some (element.ChargeParameterDiscoveryRes x)) = refl
-  offer_settled (Some (element.ServiceDiscoveryRes x)) = refl
-  offer_settled (Some (element.ServiceDetailRes reply)) =
-      ap (λ (sets : List SaidSet). Some (reply.response_code, sets)) (sets_settled reply.service_parameter_list)
+abbrev Reply : Type 0
+Reply = Code × List SaidSet
 
-  same_offer : (n : IsoMessage) → settled_iso_message (lends_of m) m ≡ settled_iso_message (lends_of m) n
-      → offer_by chars_of m.body.element ≡ offer_by chars_of n.body.element
-  same_offer n same =
-      sym (offer_settled m.body.element) ∙ ap (λ (x : IsoMessage). offer_by kept_chars x.body.element) same ∙ offer_settled n.body.element
+abbrev reply_at : Children → Reply
+reply_at c = (read response_code (or_empty (head (c RESPONSE_CODE))), sets_at (head (c SERVICE_PARAMETER_LIST)))
+
+reply_read : (code : ResponseCode) (id : ℕ) (o : Option ServiceParameterList)
+    → reply_at (children (holding (service_detail_res_parts (record { response_code = code; service_id = id; service_parameter_list = o }))))
+    ≡ (code_of code, sets_in o)
+reply_read code id None = ap (λ c. (c, [])) (code_read code)
+reply_read code id (Some l) = ap₂ (λ c s. (c, s)) (code_read code) (list_read l)
+
+abbrev of_body : Option BodyElement → Option Reply
+of_body (Some (element.ServiceDetailRes x)) = Some (code_of x.response_code, sets_in x.service_parameter_list)
+of_body _ = None
+
+another : (x : BriefElement) → (brief_element_name x == SERVICE_DETAIL_RES) ≡ false
+another (brief.AuthorizationReq x) = refl
+another other = refl
+
+body_read : (o : Option BodyElement) → in_body SERVICE_DETAIL_RES reply_at o ≡ of_body o
+body_read None = refl
+body_read (Some (element.Brief x)) = ap (λ b. read_if b reply_at (body_element_inside (element.Brief x))) (another x)
+body_read (Some (element.ChargeParameterDiscoveryRes x)) = refl
+body_read (Some (element.ServiceDetailRes x)) = ap (λ r. Some r) (reply_read x.response_code x.service_id x.service_parameter_list)
+body_read (Some (element.ServiceDiscoveryRes x)) = refl
 
 -- ---- offers
 
-abbrev OffersOf : Option (ResponseCode × List SaidSet) → List SaidSet → Type 0
+abbrev OffersOf : Option Reply → List SaidSet → Type 0
 OffersOf None sets = ⊥
-OffersOf (Some offer) sets = IsOkClass (code_of offer.0) × (sets ≡ offer.1)
+OffersOf (Some r) sets = IsOkClass r.0 × (sets ≡ r.1)
 
-content_same : (v : ParameterValue) → content_in v ≡ content_by chars_of v
-content_same (value.Bool truth) = refl
-content_same (value.Byte number) = refl
-content_same (value.Short number) = refl
-content_same (value.Int number) = refl
-content_same (value.Physical physical) = refl
-content_same (value.String string) = refl
+offers_to : (e : Option BodyElement) (sets : List SaidSet) → OffersIn e sets → OffersOf (of_body e) sets
+offers_to None sets h = h
+offers_to (Some (element.Brief x)) sets h = h
+offers_to (Some (element.ChargeParameterDiscoveryRes x)) sets h = h
+offers_to (Some (element.ServiceDiscoveryRes x)) sets h = h
+offers_to (Some (element.ServiceDetailRes x)) sets h = h
 
-said_same : (ps : List Parameter) → map said_in ps ≡ map (said_by chars_of) ps
-said_same [] = refl
-said_same (p ∷ ps) =
-    ap (λ (c : Option Content). said_at (chars_of p.name) c ∷ map said_in ps) (content_same p.value) ∙ ap (λ (l : List Said). said_by chars_of p ∷ l) (said_same ps)
-
-all_same : (sets : List ParameterSet) → map said_set_in sets ≡ map (set_by chars_of) sets
-all_same [] = refl
-all_same (s ∷ sets) =
-    ap (λ (l : List Said). set_at s.parameter_set_id l ∷ map said_set_in sets) (said_same s.parameter.items)
-    ∙ ap (λ (l : List SaidSet). set_by chars_of s ∷ l) (all_same sets)
-
-same_sets : (list : Option ServiceParameterList) → sets_in list ≡ sets_by chars_of list
-same_sets None = refl
-same_sets (Some list) = all_same list.parameter_set.items
-
-to_offer : (e : Option BodyElement) (sets : List SaidSet) → OffersIn e sets → OffersOf (offer_by chars_of e) sets
-to_offer None sets h = h
-to_offer (Some (element.Brief x)) sets h = h
-to_offer (Some (element.ChargeParameterDiscoveryRes x)) sets h = h
-to_offer (Some (element.ServiceDiscoveryRes x)) sets h = h
-to_offer (Some (element.ServiceDetailRes reply)) sets h = (h.0, h.1 ∙ same_sets reply.service_parameter_list)
-
-from_offer : (e : Option BodyElement) (sets : List SaidSet) → OffersOf (offer_by chars_of e) sets → OffersIn e sets
-from_offer None sets h = h
-from_offer (Some (element.Brief x)) sets h = h
-from_offer (Some (element.ChargeParameterDiscoveryRes x)) sets h = h
-from_offer (Some (element.ServiceDiscoveryRes x)) sets h = h
-from_offer (Some (element.ServiceDetailRes reply)) sets h = (h.0, h.1 ∙ sym (same_sets reply.service_parameter_list))
-
-offers_too : (m n : IsoMessage) (sets : List SaidSet) → settled_iso_message (lends_of m) m ≡ settled_iso_message (lends_of m) n → Offers m sets → Offers n sets
-offers_too m n sets same offered =
-    from_offer n.body.element sets
-    (subst (λ (o : Option (ResponseCode × List SaidSet)). OffersOf o sets) (same_offer m n same) (to_offer m.body.element sets offered))
+offers_from : (e : Option BodyElement) (sets : List SaidSet) → OffersOf (of_body e) sets → OffersIn e sets
+offers_from None sets h = h
+offers_from (Some (element.Brief x)) sets h = h
+offers_from (Some (element.ChargeParameterDiscoveryRes x)) sets h = h
+offers_from (Some (element.ServiceDiscoveryRes x)) sets h = h
+offers_from (Some (element.ServiceDetailRes x)) sets h = h
 
 pub one_tree_offer : (m n : IsoMessage) (sets : List SaidSet) → iso_tree m ≡ iso_tree n → Offers m sets → Offers n sets
-one_tree_offer m n sets same offered = offers_too m n sets (one_message (lends_of m) m n same) offered
+one_tree_offer m n sets same offered =
+    let one = sym (body_read m.body.element) ∙ one_tree SERVICE_DETAIL_RES reply_at m n same ∙ body_read n.body.element in
+    offers_from n.body.element sets (subst (λ (o : Option Reply). OffersOf o sets) one (offers_to m.body.element sets offered))
 
 pub one_payload_offer : (payload : List ℕ) (m n : IsoMessage) (sets : List SaidSet) → IsIso m payload → IsIso n payload → Offers m sets → Offers n sets
-one_payload_offer payload m n sets first second offered = offers_too m n sets (one_payload_message (lends_of m) payload m n first second) offered
+one_payload_offer payload m n sets p q offered = one_tree_offer m n sets (same_tree payload m n p q) offered

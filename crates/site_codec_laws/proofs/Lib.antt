@@ -5,6 +5,5 @@ pub mod EachJudged
 pub mod IsoPayloads
 pub mod DinPayloads
 pub mod Lawful
-pub use Rattle.site_codec_rules.proofs.Spelled
-pub use Rattle.site_codec_rules.proofs.Words
+pub use Rattle.site_codec_rules.proofs.IsoPayloads as IsoWords
 pub use Rattle.site_codec_rules.proofs.DinPayloads as DinWords

@@ -16,5 +16,4 @@ pub fn codecs_are_lawful()
     ensures judges { JudgesAll (codecs Negotiates Reads Encodes) }
 {}
 
-pub use iso_replies;
 pub use site_codec_rules;

@@ -20,7 +20,7 @@ fn iso_word(tables: &IsoTables, payload: &[u8], table: &mut Table) -> Option<Wor
 {
     let mut message = IsoMessage::unread();
     match read_iso(tables, payload, table, &mut message) {
-        Ok(()) => Some(iso_word_laws::iso_words::to_word(&message)),
+        Ok(()) => Some(iso_words::to_word(&message)),
         Err(_) => None,
     }
 }

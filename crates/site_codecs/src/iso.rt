@@ -23,7 +23,7 @@ pub(crate) fn write(tables: &IsoTables, reply: &Reply, room: &mut [u8], table: &
     ensures encoded { Encodes reply.now (take result room.new) }
 {
     iso_codec::laws::messages_are_written();
-    site_codec_laws::iso_replies::replies_are_within();
-    iso_reply_sizes::replies_are_small();
+    iso_codec::laws::encodings_are_read();
+    iso_table_laws::payloads_have_words();
     write_iso(tables, &of_reply(reply), room, table).unwrap()
 }

@@ -1,7 +1,7 @@
 use Rattle.std.proofs.Common.{◌≡◌, ◌+◌, ◌++◌, [], ◌∷◌, map, length, arith, ap, sym, ◌∙◌}
 use Rattle.std.proofs.lemmas.List.FromFn.{map-range_with_len_more, length-map-range_with_len}
 use Rattle.std.specs.List.{range_with_len}
-use Rattle.iso_word_messages.specs.ParameterMessages.{entry_at}
+use Rattle.iso_word_messages.specs.Schedules.{entry_at}
 use Rattle.iso_word_messages.proofs.parameter_messages.entries_of.Goals as goal
 
 pub loop-start-preserved : goal.loop-start-preserved

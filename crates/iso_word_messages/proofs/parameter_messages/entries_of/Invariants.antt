@@ -1,6 +1,6 @@
 use Rattle.std.proofs.Common.{◌≡◌, length, map}
 use Rattle.std.specs.List.{range_with_len}
-use Rattle.iso_word_messages.specs.ParameterMessages.{entry_at}
+use Rattle.iso_word_messages.specs.Schedules.{entry_at}
 use Rattle.iso_word_messages.proofs.parameter_messages.entries_of.Given as goal
 
 abbrev pub invariant-loop-start : goal.invariant-loop-start

@@ -1,5 +1,5 @@
 use Rattle.std.proofs.Common.{◌≡◌, length, map, take}
-use Rattle.iso_word_messages.specs.ParameterMessages.{schedule_tuple}
+use Rattle.iso_word_messages.specs.Schedules.{schedule_tuple}
 use Rattle.iso_word_messages.proofs.parameter_messages.schedules_of.Given as goal
 
 abbrev pub invariant-loop-tuple : goal.invariant-loop-tuple

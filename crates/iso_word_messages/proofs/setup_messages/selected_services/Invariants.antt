@@ -1,5 +1,5 @@
 use Rattle.std.proofs.Common.{◌≡◌, length, map, take}
-use Rattle.iso_word_messages.specs.SetupMessages.{selected_service}
+use Rattle.iso_word_messages.proofs.Parts.{selected_service}
 use Rattle.iso_word_messages.proofs.setup_messages.selected_services.Given as goal
 
 abbrev pub invariant-loop-service : goal.invariant-loop-service

@@ -1,6 +1,6 @@
 use Rattle.std.proofs.Common.{◌≡◌, min, map, take}
 use Rattle.std.specs.List.{fold}
-use Rattle.iso_words.specs.ParameterWords.{entry_power}
+use Rattle.iso_words.proofs.Parts.{entry_power}
 use Rattle.iso_words.proofs.parameter_words.least_with.Given as goal
 
 abbrev pub invariant-loop-entry : goal.invariant-loop-entry

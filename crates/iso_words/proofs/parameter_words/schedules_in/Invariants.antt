@@ -1,5 +1,5 @@
 use Rattle.std.proofs.Common.{◌≡◌, length, map, take}
-use Rattle.iso_words.specs.ParameterWords.{tuple_in}
+use Rattle.iso_words.proofs.Parts.{tuple_in}
 use Rattle.iso_words.proofs.parameter_words.schedules_in.Given as goal
 
 abbrev pub invariant-loop-tuple : goal.invariant-loop-tuple

@@ -1,6 +1,6 @@
 use Rattle.std.proofs.Common.{◌≡◌, true, take}
 use Rattle.std.specs.List.{list_all}
-use Rattle.iso_words.specs.PowerWords.{profile_power}
+use Rattle.iso_words.proofs.Parts.{profile_power}
 use Rattle.iso_words.proofs.power_words.are_right.Given as goal
 
 abbrev pub invariant-loop-entry : goal.invariant-loop-entry

@@ -1,6 +1,6 @@
 use Rattle.std.proofs.Common.{◌≡◌, max, map, take}
 use Rattle.std.specs.List.{fold}
-use Rattle.iso_words.specs.PowerWords.{profile_power}
+use Rattle.iso_words.proofs.Parts.{profile_power}
 use Rattle.iso_words.proofs.power_words.most_watts.Given as goal
 
 abbrev pub invariant-loop-entry : goal.invariant-loop-entry

@@ -1,2 +1,0 @@
-pub mod Replies
-pub use Rattle.iso_message.specs.Documents

@@ -1,7 +1,0 @@
-pub mod Values
-pub mod Setup
-pub mod Parameters
-pub mod Power
-pub mod Requests
-pub mod Trees
-pub mod Sizes

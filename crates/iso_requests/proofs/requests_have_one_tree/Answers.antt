@@ -1,5 +1,0 @@
-use Rattle.iso_requests.proofs.Trees as trees
-use Rattle.iso_requests.proofs.requests_have_one_tree.Goals as goal
-
-pub returns : goal.returns
-returns c = trees.requests_have_one_tree

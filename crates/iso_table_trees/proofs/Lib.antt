@@ -1,3 +1,0 @@
-pub mod Values
-pub mod Messages
-pub mod Words

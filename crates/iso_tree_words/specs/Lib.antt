@@ -1,5 +1,0 @@
-pub mod Values
-pub mod SetupWords
-pub mod ParameterWords
-pub mod PowerWords
-pub mod Words
