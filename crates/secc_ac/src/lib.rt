@@ -3,7 +3,7 @@
 //! What is answered, ordered and kept are the rules of a session (`session_rules`).
 //!
 //! Proved: the row behind, the order, the reply and the end of each row are those of `session_rules`, and Close is ordered by a
-//! `CloseRight` alone. The machine does not stand on these rows yet.
+//! `CloseRight` alone.
 #![tactic(auto)]
 
 pub mod next;

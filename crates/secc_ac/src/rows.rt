@@ -11,12 +11,13 @@ ghost use Rattle.session_rules.specs.Reply.{waiting_reply};
 ghost use Rattle.session_rules.specs.Stages.{is_waiting, confirmed};
 ghost use Rattle.session_rules.specs.Verdict.{verdict, is_accepted};
 ghost use Rattle.secc_setup.specs.Carrying.{carried_stage};
+ghost use Rattle.secc_setup.specs.Places.{place_of};
 ghost use Rattle.secc_setup.specs.Ends.{end_of, reply_at_once};
 ghost use Rattle.secc_ac.specs.Nexts.{next_stage, closes, right_in, order_in};
 
 use crate::next::{Moved, Next, with_next};
 use contactor::CloseRight;
-use secc_setup::{Carried, answer_to};
+use secc_setup::{Carried, Place, answer_to};
 use session_rules::{Stage, law_of_closing, waiting_reply};
 use session_words::{Ask, EndCause, Facts, Phase, PostPlan, Progress, Request};
 use std::marker::Model;
@@ -93,6 +94,14 @@ impl AcReady {
         AcReady { carried }
     }
 
+    /// Where the session is.
+    pub fn place(&self) -> Place
+        ensures row { result.row ≡ row.AcReady }
+        ensures value { result ≡ place_of self.now }
+    {
+        self.carried.place(Phase::AcReady)
+    }
+
     /// The stage of the session.
     pub fn stage(&self) -> Stage
         ensures { result ≡ self.now }
@@ -151,6 +160,14 @@ impl AcReady {
 }
 
 impl AcClosing {
+    /// Where the session is.
+    pub fn place(&self) -> Place
+        ensures row { result.row ≡ row.AcClosing }
+        ensures value { result ≡ place_of self.now }
+    {
+        self.carried.place(Phase::AcClosing)
+    }
+
     /// The stage of the session.
     pub fn stage(&self) -> Stage
         ensures { result ≡ self.now }
@@ -166,6 +183,14 @@ impl AcClosing {
         (self, EndCause::Impatient)
     }
 
+    /// The row behind the reply that waited.
+    pub fn confirmed(self) -> AcCharging
+        ensures { result ≡ confirmed self }
+    {
+        let AcClosing { carried } = self;
+        AcCharging { carried }
+    }
+
     /// The feedback confirms that the contactor is closed: the reply that waited goes, and the car is charged.
     pub fn confirm(self, facts: &Facts, plan: &PostPlan) -> Moved
         ensures next { next_stage result.next ≡ confirmed self }
@@ -174,9 +199,8 @@ impl AcClosing {
         ensures end { result.end ≡ None }
     {
         let reply = waiting_reply(&self.stage(), facts, plan);
-        let AcClosing { carried } = self;
         Moved {
-            next: Next::AcCharging(AcCharging { carried }),
+            next: Next::AcCharging(self.confirmed()),
             order: None,
             reply: Some(reply),
             end: None,
@@ -185,6 +209,14 @@ impl AcClosing {
 }
 
 impl AcCharging {
+    /// Where the session is.
+    pub fn place(&self) -> Place
+        ensures row { result.row ≡ row.AcCharging }
+        ensures value { result ≡ place_of self.now }
+    {
+        self.carried.place(Phase::AcCharging)
+    }
+
     /// The stage of the session.
     pub fn stage(&self) -> Stage
         ensures { result ≡ self.now }
@@ -257,6 +289,14 @@ impl AcCharging {
 }
 
 impl AcStopped {
+    /// Where the session is.
+    pub fn place(&self) -> Place
+        ensures row { result.row ≡ row.AcStopped }
+        ensures value { result ≡ place_of self.now }
+    {
+        self.carried.place(Phase::AcStopped)
+    }
+
     /// The stage of the session.
     pub fn stage(&self) -> Stage
         ensures { result ≡ self.now }

@@ -2,10 +2,11 @@
 
 ghost use Rattle.std.specs.Prelude.{◌≡◌, Some};
 ghost use Rattle.session_rules.specs.Delivery.{off_of};
+ghost use Rattle.secc_setup.specs.Places.{place_of};
 ghost use Rattle.secc_dc.specs.Charging.{charged_stage};
 
 use charge_world::Dialect;
-use secc_setup::Carried;
+use secc_setup::{Carried, Place};
 use session_rules::{PreCharged, Stage};
 use session_words::{Phase, SessionId};
 
@@ -23,6 +24,17 @@ pub struct Charged {
 }
 
 impl Charged {
+    /// Where a session in this row is.
+    pub fn place(&self, row: Phase) -> Place
+        ensures { result ≡ place_of (charged_stage row self.now) }
+    {
+        Place {
+            row,
+            dialect: self.dialect,
+            told: self.told,
+        }
+    }
+
     /// The stage of a session in this row.
     pub fn stage(&self, row: Phase) -> Stage
         ensures { result ≡ charged_stage row self.now }

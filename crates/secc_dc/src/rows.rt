@@ -7,6 +7,7 @@ ghost use Rattle.session_words.specs.declared.phase.Phase.TheVariants as row;
 ghost use Rattle.session_words.specs.declared.cause.EndCause.TheVariants as cause;
 ghost use Rattle.charge_world.specs.declared.heard.IsolationLevel.TheVariants as isolation_level;
 ghost use Rattle.contactor.specs.Rights.{is_ready};
+ghost use Rattle.session_rules.specs.Causes.{needs_isolation};
 ghost use Rattle.session_rules.specs.Finishing.{is_valid};
 ghost use Rattle.session_rules.specs.Laws.{IsNear};
 ghost use Rattle.session_rules.specs.Moves.{stage_behind};
@@ -15,6 +16,7 @@ ghost use Rattle.session_rules.specs.Reply.{waiting_reply};
 ghost use Rattle.session_rules.specs.Stages.{is_waiting, confirmed};
 ghost use Rattle.session_rules.specs.Verdict.{verdict, is_accepted};
 ghost use Rattle.secc_setup.specs.Carrying.{carried_stage};
+ghost use Rattle.secc_setup.specs.Places.{place_of};
 ghost use Rattle.secc_setup.specs.Ends.{end_of, reply_at_once};
 ghost use Rattle.secc_dc.specs.Charging.{charged_stage};
 ghost use Rattle.secc_dc.specs.Closing.{right_of};
@@ -24,7 +26,7 @@ use crate::charged::{Charged, off_of};
 use crate::next::{Moved, Next, with_next};
 use charge_world::{IsolationLevel, Tenths};
 use contactor::CloseRight;
-use secc_setup::{Carried, answer_to};
+use secc_setup::{Carried, Place, answer_to};
 use session_rules::{PreCharged, Stage, is_finished, is_valid, law_of_closing, waiting_reply};
 use session_words::{Ask, EndCause, Facts, Phase, PostPlan, Progress, Request};
 use std::marker::Model;
@@ -133,6 +135,14 @@ impl DcReady {
         DcReady { carried }
     }
 
+    /// Where the session is.
+    pub fn place(&self) -> Place
+        ensures row { result.row ≡ row.DcReady }
+        ensures value { result ≡ place_of self.now }
+    {
+        self.carried.place(Phase::DcReady)
+    }
+
     /// The stage of the session.
     pub fn stage(&self) -> Stage
         ensures { result ≡ self.now }
@@ -184,6 +194,14 @@ impl DcReady {
 }
 
 impl DcChecked {
+    /// Where the session is.
+    pub fn place(&self) -> Place
+        ensures row { result.row ≡ row.DcChecked }
+        ensures value { result ≡ place_of self.now }
+    {
+        self.carried.place(Phase::DcChecked)
+    }
+
     /// The stage of the session.
     pub fn stage(&self) -> Stage
         ensures { result ≡ self.now }
@@ -254,6 +272,14 @@ impl DcChecked {
 }
 
 impl DcPreCharging {
+    /// Where the session is.
+    pub fn place(&self) -> Place
+        ensures row { result.row ≡ row.DcPreCharging }
+        ensures value { result ≡ place_of self.now }
+    {
+        self.charged.place(Phase::DcPreCharging)
+    }
+
     /// The stage of the session.
     pub fn stage(&self) -> Stage
         ensures { result ≡ self.now }
@@ -319,10 +345,10 @@ impl DcPreCharging {
     }
 
     /// PreCharge stays; PowerDelivery Start leads on, with the right to close the contactor; SessionStop ends the
-    /// session. The isolation has to be valid.
+    /// session. The isolation has to be valid, as in each row that needs it.
     pub fn step(self, request: &Request, facts: &Facts, plan: &PostPlan, shown: u32) -> Moved
         requires plan { IsPostPlan plan.now }
-        requires isolation { is_valid facts.now.isolation ≡ true }
+        requires isolation { needs_isolation self.row ≡ true → is_valid facts.now.isolation ≡ true }
         ensures next { next_stage result.next ≡ stage_behind self facts.now plan.now request.now shown }
         ensures order { order_in result ≡ order_of self facts.now plan.now request.now shown }
         // Close is ordered by a right alone.
@@ -338,6 +364,14 @@ impl DcPreCharging {
 }
 
 impl DcClosing {
+    /// Where the session is.
+    pub fn place(&self) -> Place
+        ensures row { result.row ≡ row.DcClosing }
+        ensures value { result ≡ place_of self.now }
+    {
+        self.charged.place(Phase::DcClosing)
+    }
+
     /// The stage of the session.
     pub fn stage(&self) -> Stage
         ensures { result ≡ self.now }
@@ -353,6 +387,14 @@ impl DcClosing {
         (self, EndCause::Impatient)
     }
 
+    /// The row behind the reply that waited.
+    pub fn confirmed(self) -> DcCharging
+        ensures { result ≡ confirmed self }
+    {
+        let DcClosing { charged } = self;
+        DcCharging { charged }
+    }
+
     /// The feedback confirms that the contactor is closed: the reply that waited goes, and the car is charged.
     pub fn confirm(self, facts: &Facts, plan: &PostPlan) -> Moved
         ensures next { next_stage result.next ≡ confirmed self }
@@ -361,9 +403,8 @@ impl DcClosing {
         ensures end { result.end ≡ None }
     {
         let reply = waiting_reply(&self.stage(), facts, plan);
-        let DcClosing { charged } = self;
         Moved {
-            next: Next::DcCharging(DcCharging { charged }),
+            next: Next::DcCharging(self.confirmed()),
             order: None,
             reply: Some(reply),
             end: None,
@@ -372,6 +413,14 @@ impl DcClosing {
 }
 
 impl DcCharging {
+    /// Where the session is.
+    pub fn place(&self) -> Place
+        ensures row { result.row ≡ row.DcCharging }
+        ensures value { result ≡ place_of self.now }
+    {
+        self.charged.place(Phase::DcCharging)
+    }
+
     /// The stage of the session.
     pub fn stage(&self) -> Stage
         ensures { result ≡ self.now }
@@ -441,6 +490,14 @@ impl DcCharging {
 }
 
 impl DcStopped {
+    /// Where the session is.
+    pub fn place(&self) -> Place
+        ensures row { result.row ≡ row.DcStopped }
+        ensures value { result ≡ place_of self.now }
+    {
+        self.charged.place(Phase::DcStopped)
+    }
+
     /// The stage of the session.
     pub fn stage(&self) -> Stage
         ensures { result ≡ self.now }

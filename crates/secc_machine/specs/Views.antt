@@ -4,7 +4,11 @@ use Rattle.std.specs.Option.{option_map}
 use Rattle.charge_world.specs.declared.offer.Dialect.{Dialect}
 use Rattle.v2gtp_frames.specs.Reading.{behind_front}
 use Rattle.session_words.specs.declared.cause.EndCause.{EndCause}
+use Rattle.session_words.specs.declared.facts.Facts.{Facts}
+use Rattle.session_words.specs.declared.phase.Phase.TheVariants as row
 use Rattle.session_words.specs.declared.plan.PostPlan.{PostPlan}
+use Rattle.session_words.specs.declared.word.Request.{Request}
+use Rattle.session_rules.specs.Moves.{facts_behind}
 use Rattle.post_spec.specs.Codecs as codecs
 use Rattle.post_spec.specs.Steps as steps
 use Rattle.station_spec.specs.Deciding.{ending_by}
@@ -70,7 +74,7 @@ wanted_of wanted = record { dialect = wanted.dialect; bytes = wanted.payload.now
 -- what is kept of a session, with what of its stream was not read yet
 abbrev pub with_unread : List ℕ → Living → states.Session
 with_unread unread living = record {
-  stage = living.stage;
+  stage = living.row;
   since = living.since;
   unread = unread;
   asked = living.asked;
@@ -106,3 +110,13 @@ asks_in plan s other word = None
 abbrev pub IsShownFor : (ℕ → ℕ → Type 0) → Option ℕ → ℕ → Type 0
 IsShownFor Shows None shown = shown ≡ 0
 IsShownFor Shows (Some asked) shown = Shows asked shown
+
+-- the facts behind a request, where a session lives
+abbrev pub facts_in : Option states.Session → Facts → PostPlan → Request → Facts
+facts_in None facts plan r = facts
+facts_in (Some session) facts plan r = facts_behind session.stage facts plan r
+
+-- a negotiation is the first word of a connection
+abbrev pub ComesFirst : Option states.Session → codecs.Judged → Type 0
+ComesFirst (Some session) (codecs.Negotiated chosen response) = session.stage.row ≡ row.Connected
+ComesFirst other word = Unit {0}

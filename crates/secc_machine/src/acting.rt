@@ -14,7 +14,6 @@ use crate::event::{Done, PostEvent};
 use crate::post::{Part, Post};
 use charge_world::{Order, PlantEvent};
 use contactor::standing_behind;
-use session_rules::Stage;
 use session_words::{EndCause, Facts, SessionId, Standing};
 use station_spec::live_behind;
 
@@ -83,14 +82,14 @@ fn standing_ordered(order: &Order, taken: bool, now: Standing) -> Standing
 /// The identifier that is kept behind an end by this cause.
 fn kept_behind(
     cause: Option<EndCause>,
-    stage: Option<Stage>,
+    name: Option<SessionId>,
     kept: Option<SessionId>,
 ) -> Option<SessionId>
-    ensures { (session : Option Session) → option_map (λ session. session.stage) session ≡ stage
+    ensures { (session : Option Session) → option_map (λ session. session.stage.session) session ≡ name
         → result ≡ acting.kept_behind cause session kept }
 {
-    match (cause, stage) {
-        (Some(EndCause::Paused), Some(stage)) => Some(stage.session),
+    match (cause, name) {
+        (Some(EndCause::Paused), Some(name)) => Some(name),
         _ => kept,
     }
 }
@@ -179,7 +178,7 @@ impl Post {
         ensures { self.new ≡ acting.ended self.old }
     {
         let kept = self.facts.kept.take();
-        self.facts.kept = kept_behind(self.agenda.ending, self.slot.stage(), kept);
+        self.facts.kept = kept_behind(self.agenda.ending, self.slot.name(), kept);
         self.facts.paid = false;
         self.facts.joined = false;
         self.slot.close();

@@ -11,7 +11,7 @@ use crate::post::{Part, Post};
 use crate::slot::Living;
 use charge_world::PlantEvent;
 use sdp_discovery::{SdpRequest, answer_to, write_request};
-use session_rules::{Watch, allowed_watts, is_waiting, plant_cause, waiting_reply};
+use session_rules::{Watch, allowed_watts, is_waiting, plant_cause};
 use session_words::{EndCause, PostPlan};
 
 /// Whether a datagram is a discovery request that asks for this security.
@@ -38,12 +38,13 @@ impl Post {
     fn watch(&self, plan: &PostPlan, living: &Living) -> Watch
         ensures { result ≡ deciding.watch plan.now (with_unread [] living.now) self.now }
     {
+        let place = living.row.place();
         Watch {
-            row: living.stage.row,
+            row: place.row,
             standing: self.stood,
             live: self.live,
             phases: plan.mode.phases(),
-            allowed: allowed_watts(living.stage.told, living.lowered, self.clock),
+            allowed: allowed_watts(place.told, living.lowered, self.clock),
         }
     }
 
@@ -52,10 +53,11 @@ impl Post {
         ensures { result ≡ deciding.confirming plan.now (with_unread [] living.now) event.now self.now }
     {
         let confirms = matches!(event, PlantEvent::Feedback { closed: true });
-        if is_waiting(living.stage.row) && confirms {
+        let place = living.row.place();
+        if is_waiting(place.row) && confirms {
             Agenda::saying(Spoken::Said {
-                dialect: living.stage.dialect,
-                reply: waiting_reply(&living.stage, &self.facts, plan),
+                dialect: place.dialect,
+                reply: living.row.waiting_reply(&self.facts, plan),
             })
         } else {
             Agenda::nothing()

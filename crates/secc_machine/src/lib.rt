@@ -17,6 +17,7 @@ mod event;
 mod judging;
 pub mod law;
 mod post;
+mod ruling;
 mod slot;
 
 pub use agenda::{Spoken, Todo};

@@ -1,12 +1,12 @@
 //! The session of a post, in memory of its own.
 
-ghost use Rattle.std.specs.Prelude.{◌≡◌, ◌≤◌, ◌&&◌, List, ℕ, Option, Some, None, [], length, is_some, IfOk, IfSome, min, unwrap_or, if◌then◌else◌};
+ghost use Rattle.std.specs.Prelude.{◌≡◌, ◌≤◌, List, ℕ, Option, Some, None, [], length, is_some, IfOk, IfSome, min};
 ghost use Rattle.std.specs.Option.{option_map};
+ghost use Rattle.session_words.specs.Plans.{IsPostPlan};
+ghost use Rattle.session_words.specs.declared.phase.Phase.TheVariants as row;
 ghost use Rattle.session_timers.specs.Due.{never};
 ghost use Rattle.session_timers.specs.Law.{span_of as span};
 ghost use Rattle.v2gtp_frames.specs.Reading.{behind_front};
-ghost use Rattle.session_rules.specs.Allowed.{lowered_by};
-ghost use Rattle.session_rules.specs.Asks.{asks, shows_watts};
 ghost use Rattle.station_spec.specs.States.{State, first_session};
 ghost use Rattle.station_spec.specs.Deciding as deciding;
 ghost use Rattle.station_spec.specs.Judging as judging;
@@ -14,20 +14,22 @@ ghost use Rattle.station_spec.specs.Acting as acting;
 ghost use Rattle.station_spec.specs.Hearing as hearings;
 ghost use Rattle.station_spec.specs.Sharing.{asked_in, told_in};
 ghost use Rattle.station_spec.specs.Until.{due_in};
+ghost use Rattle.valid_isolation.specs.Isolated.{IsIsolated};
 ghost use Rattle.secc_machine.specs.Resting.{IsReadOut};
-ghost use Rattle.secc_machine.specs.Views.{wanted_of, with_unread, chosen_session, dialect_in, unread_in};
+ghost use Rattle.secc_machine.specs.Views.{wanted_of, with_unread, chosen_session, dialect_in, unread_in, facts_in};
 
 use crate::NoMemory;
 use crate::agenda::Agenda;
+use crate::post::first_facts;
+use crate::ruling::ruled;
 use charge_world::{Dialect, Order};
 use heard_bytes::Unread;
-use session_rules::{
-    Lowered, Stage, asks, is_accepted, is_set_up, is_waiting, judge, lowered_by, shows_watts,
-    stage_behind, timeout_of,
-};
-use session_words::{Ask, EndCause, Facts, Phase, PostPlan, Request, Timeout};
+use secc_rows::{Place, Row};
+use session_rules::{Lowered, is_set_up, is_waiting, timeout_of};
+use session_words::{EndCause, Facts, Phase, PostPlan, Request, SessionId, Timeout};
 use std::alloc::Global;
 use std::marker::Model;
+use std::mem;
 use v2gtp_frames::whole_frame;
 
 /// A payload that has to be read now.
@@ -42,7 +44,7 @@ pub struct Wanted<'a> {
 /// What is kept of a session that lives, beside its stream.
 #[derive(Drop)]
 pub(crate) struct Living {
-    pub(crate) stage: Stage,
+    pub(crate) row: Row,
     /// The moment from which its deadline counts.
     pub(crate) since: u64,
     /// The watts that it asks for; 0 where it doesn't.
@@ -80,26 +82,12 @@ fn span_of(timeout: Timeout) -> u64
 }
 
 /// The dialect in which the words of a session are read.
-fn speaks(stage: &Stage) -> Option<Dialect>
-    ensures { result ≡ judging.speaks stage.now }
+fn speaks(place: Place) -> Option<Dialect>
+    ensures { result ≡ judging.speaks_in place.row place.dialect }
 {
-    match stage.row {
+    match place.row {
         Phase::Connected => None,
-        _ => Some(stage.dialect),
-    }
-}
-
-/// The same stage.
-fn copied(stage: &Stage) -> Stage
-    ensures { result ≡ stage.now }
-{
-    Stage {
-        row: stage.row,
-        dialect: stage.dialect,
-        session: stage.session.copied(),
-        told: stage.told,
-        schedule: stage.schedule,
-        pre_charge: stage.pre_charge,
+        _ => Some(place.dialect),
     }
 }
 
@@ -109,14 +97,17 @@ impl Living {
         ensures { result ≡ min never (deciding.due (with_unread [] self.now)) }
     {
         self.since
-            .saturating_add(span_of(timeout_of(self.stage.row)))
+            .saturating_add(span_of(timeout_of(self.row.place().row)))
     }
 
     /// Whether its deadline was reached.
     fn is_due(&self, now: u64) -> bool
         ensures { result ≡ deciding.is_reached (deciding.due (with_unread [] self.now)) now }
     {
-        match self.since.checked_add(span_of(timeout_of(self.stage.row))) {
+        match self
+            .since
+            .checked_add(span_of(timeout_of(self.row.place().row)))
+        {
             Some(moment) => moment <= now && moment < u64::MAX,
             None => false,
         }
@@ -141,12 +132,12 @@ impl SessionSlot {
         self.living.as_ref()
     }
 
-    /// The session's stage once more, if one lives.
-    pub(crate) fn stage(&self) -> Option<Stage>
-        ensures { result ≡ option_map (λ session. session.stage) self.now }
+    /// The session's identifier, if one lives.
+    pub(crate) fn name(&self) -> Option<SessionId>
+        ensures { result ≡ option_map (λ session. session.stage.session) self.now }
     {
         match &self.living {
-            Some(living) => Some(copied(&living.stage)),
+            Some(living) => Some(living.row.stage().session),
             None => None,
         }
     }
@@ -156,7 +147,7 @@ impl SessionSlot {
         ensures { result ≡ dialect_in self.now }
     {
         match &self.living {
-            Some(living) => speaks(&living.stage),
+            Some(living) => speaks(living.row.place()),
             None => None,
         }
     }
@@ -183,7 +174,7 @@ impl SessionSlot {
         ensures { result ≡ told_in self.now }
     {
         match &self.living {
-            Some(living) => living.stage.told,
+            Some(living) => living.row.place().told,
             None => 0,
         }
     }
@@ -204,7 +195,7 @@ impl SessionSlot {
     {
         match &self.living {
             Some(living) if living.is_due(now) => {
-                Agenda::ending_by(EndCause::from(timeout_of(living.stage.row)), live)
+                Agenda::ending_by(EndCause::from(timeout_of(living.row.place().row)), live)
             }
             _ => Agenda::nothing(),
         }
@@ -229,7 +220,7 @@ impl SessionSlot {
         };
         match whole_frame(self.unread.bytes()) {
             Err(_) => Agenda::ending_by(EndCause::BadFrame, live),
-            Ok(Some(_)) if is_waiting(living.stage.row) => {
+            Ok(Some(_)) if is_waiting(living.row.place().row) => {
                 Agenda::ending_by(EndCause::Impatient, live)
             }
             Ok(_) => Agenda::nothing(),
@@ -241,13 +232,13 @@ impl SessionSlot {
         ensures value { option_map wanted_of result ≡ judging.payload_in self.now }
         ensures short { IfSome result (λ wanted. length wanted.payload.now ≤ 65536) }
     {
-        let living = self.living.as_ref()?;
-        if is_waiting(living.stage.row) {
+        let place = self.living.as_ref()?.row.place();
+        if is_waiting(place.row) {
             return None;
         }
         match whole_frame(self.unread.bytes()) {
             Ok(Some(len)) => Some(Wanted {
-                dialect: speaks(&living.stage),
+                dialect: speaks(place),
                 payload: &self.unread.bytes()[8..8 + len],
             }),
             _ => None,
@@ -260,7 +251,7 @@ impl SessionSlot {
     {
         self.unread.clear();
         self.living = Some(Living {
-            stage: Stage::new(token),
+            row: Row::new(token),
             since: at,
             asked: 0,
             lowered: None,
@@ -312,6 +303,7 @@ impl SessionSlot {
 
     /// A negotiation was read, and leads to the dialect that was chosen; where none was, to nothing.
     pub(crate) fn choose(&mut self, chosen: Option<Dialect>)
+        requires { IfSome self.old (λ session. session.stage.row ≡ row.Connected) }
         ensures { self.new ≡ option_map (chosen_session chosen) self.old }
     {
         self.unread.pass();
@@ -320,22 +312,31 @@ impl SessionSlot {
         }
     }
 
-    /// A request of the session was read, where these watts are shown.
+    /// A request of the session was read, where these watts are shown: what is to be done about it.
     pub(crate) fn answer(
         &mut self,
-        facts: &Facts,
+        facts: &mut Facts,
         now: u64,
+        live: bool,
         plan: &PostPlan,
         request: &Request,
         shown: u32,
-    )
-        ensures { (s : State) → s.facts ≡ facts.now → s.clock ≡ now
+    ) -> Option<Agenda>
+        requires plan { IsPostPlan plan.now }
+        requires isolation { IsIsolated self.old facts.old.isolation }
+        ensures session { (s : State) → s.facts ≡ facts.old → s.clock ≡ now
             → self.new ≡ option_map (λ session. judging.asked_session session plan.now s request.now shown) self.old }
+        ensures facts { facts.new ≡ facts_in self.old facts.old plan.now request.now }
+        ensures agenda { (s : State) → s.facts ≡ facts.old → s.live ≡ live
+            → result ≡ option_map (λ session. judging.asked_agenda session plan.now s request.now shown) self.old }
     {
         self.unread.pass();
-        if let Some(living) = self.living.take() {
-            self.living = Some(answered(living, facts, now, plan, request, shown));
-        }
+        let living = self.living.take()?;
+        let known = mem::replace(facts, first_facts());
+        let ruling = ruled(living, known, now, live, plan, request, shown);
+        self.living = Some(ruling.living);
+        *facts = ruling.facts;
+        Some(ruling.agenda)
     }
 }
 
@@ -344,103 +345,42 @@ fn replied(living: Living, now: u64) -> Living
     ensures { (unread : List ℕ) → with_unread unread result ≡ acting.replied now (with_unread unread living) }
 {
     let Living {
-        stage,
+        row,
         since,
         asked,
         lowered,
     } = living;
-    let since = if is_set_up(stage.row) { now } else { since };
+    let since = if is_set_up(row.place().row) {
+        now
+    } else {
+        since
+    };
     Living {
-        stage: stage.confirmed(),
+        row: row.confirmed(),
         since,
         asked,
         lowered,
     }
 }
 
-/// What is kept behind a negotiation.
+/// What is kept behind a negotiation, which comes first.
 fn negotiated(living: Living, chosen: Option<Dialect>) -> Living
+    requires { living.row.row ≡ row.Connected }
     ensures { (unread : List ℕ)
         → with_unread (behind_front unread) result ≡ chosen_session chosen (with_unread unread living) }
 {
     let Living {
-        stage,
+        row,
         since,
         asked,
         lowered,
     } = living;
-    let stage = match chosen {
-        Some(dialect) => stage.negotiated(dialect),
-        None => stage,
+    let row = match chosen {
+        Some(dialect) => row.negotiated(dialect),
+        None => row,
     };
     Living {
-        stage,
-        since,
-        asked,
-        lowered,
-    }
-}
-
-/// The watts that a session asks for behind a request.
-pub(crate) fn asked_if(accepted: bool, plan: &PostPlan, ask: &Ask, asked: u32) -> u32
-    ensures { result ≡ (if accepted then unwrap_or (asks plan.now ask.now) asked else asked) }
-{
-    if accepted {
-        asks(plan, ask).unwrap_or(asked)
-    } else {
-        asked
-    }
-}
-
-/// The watts that stay allowed behind a request.
-fn lowered_if(
-    shows: bool,
-    told: u32,
-    lowered: Option<Lowered>,
-    now: u64,
-    shown: u32,
-) -> Option<Lowered>
-    ensures { result ≡ (if shows then lowered_by told lowered now shown else lowered) }
-{
-    if shows {
-        lowered_by(told, lowered, now, shown)
-    } else {
-        lowered
-    }
-}
-
-/// Whether a request makes its reply show watts.
-pub(crate) fn shows_if(accepted: bool, ask: &Ask) -> bool
-    ensures { result ≡ (accepted && shows_watts ask.now) }
-{
-    accepted && shows_watts(ask)
-}
-
-/// What is kept behind a request of the session, where these watts are shown.
-fn answered(
-    living: Living,
-    facts: &Facts,
-    now: u64,
-    plan: &PostPlan,
-    request: &Request,
-    shown: u32,
-) -> Living
-    ensures { (unread : List ℕ) (s : State) → s.facts ≡ facts.now → s.clock ≡ now
-        → with_unread (behind_front unread) result
-        ≡ judging.asked_session (with_unread unread living) plan.now s request.now shown }
-{
-    let Living {
-        stage,
-        since,
-        asked,
-        lowered,
-    } = living;
-    let accepted = is_accepted(judge(&stage, facts, plan, request));
-    let shows = shows_if(accepted, &request.ask);
-    let asked = asked_if(accepted, plan, &request.ask, asked);
-    let lowered = lowered_if(shows, stage.told, lowered, now, shown);
-    Living {
-        stage: stage_behind(stage, facts, plan, request, shown),
+        row,
         since,
         asked,
         lowered,

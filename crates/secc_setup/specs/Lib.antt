@@ -1,4 +1,5 @@
 pub mod Stages
 pub mod Carrying
+pub mod Places
 pub mod Nexts
 pub mod Ends

@@ -2,10 +2,21 @@
 
 ghost use Rattle.std.specs.Prelude.{◌≡◌};
 ghost use Rattle.secc_setup.specs.Carrying.{carried_stage};
+ghost use Rattle.secc_setup.specs.Places.{place_of};
 
 use charge_world::Dialect;
 use session_rules::{PreCharged, Stage};
 use session_words::{Phase, SessionId};
+
+/// Where a session is.
+#[derive(Clone, Copy)]
+pub struct Place {
+    pub row: Phase,
+    /// The dialect that was negotiated. In row Connected it says nothing.
+    pub dialect: Dialect,
+    /// The watts that its replies told last; 0 before.
+    pub told: u32,
+}
 
 /// What a session takes along from its charge parameters on.
 #[derive(Drop)]
@@ -21,6 +32,17 @@ pub struct Carried {
 }
 
 impl Carried {
+    /// Where a session in this row is.
+    pub fn place(&self, row: Phase) -> Place
+        ensures { result ≡ place_of (carried_stage row self.now) }
+    {
+        Place {
+            row,
+            dialect: self.dialect,
+            told: self.told,
+        }
+    }
+
     /// The stage of a session in this row.
     pub fn stage(&self, row: Phase) -> Stage
         ensures { result ≡ carried_stage row self.now }

@@ -2,8 +2,7 @@
 //! uses up: so a row can't be left but by what it leads to. What is answered, ordered and kept are the rules of a session
 //! (`session_rules`); what a row is there is said by `specs/Stages.antt`.
 //!
-//! Proved: the row behind, the order, the reply and the end of each row are those of `session_rules`. The machine does not stand on these
-//! rows yet.
+//! Proved: the row behind, the order, the reply and the end of each row are those of `session_rules`.
 #![tactic(auto)]
 
 pub mod answer;
@@ -11,5 +10,5 @@ pub mod carried;
 pub mod rows;
 
 pub use answer::{Answer, answer_to};
-pub use carried::Carried;
+pub use carried::{Carried, Place};
 pub use rows::{Authorized, Discovered, Moved, Negotiated, Next, Selected, SetUp};

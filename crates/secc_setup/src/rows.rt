@@ -10,11 +10,12 @@ ghost use Rattle.session_rules.specs.Verdict.{verdict, joins, is_accepted};
 ghost use Rattle.session_words.specs.declared.phase.Phase.TheVariants as row;
 ghost use Rattle.secc_setup.specs.Stages.{named_stage};
 ghost use Rattle.secc_setup.specs.Carrying.{carried_stage};
+ghost use Rattle.secc_setup.specs.Places.{place_of};
 ghost use Rattle.secc_setup.specs.Ends.{end_of};
 ghost use Rattle.secc_setup.specs.Nexts.{next_stage};
 
 use crate::answer::{Answer, answer_to};
-use crate::carried::Carried;
+use crate::carried::{Carried, Place};
 use charge_world::{Dialect, Order};
 use session_rules::{Stage, is_ac, is_finished, joins, stage_behind};
 use session_words::{Ask, EndCause, Facts, Phase, PostPlan, Reply, Request, SessionId};
@@ -166,6 +167,18 @@ impl Negotiated {
         Negotiated { dialect, session }
     }
 
+    /// Where the session is.
+    pub fn place(&self) -> Place
+        ensures row { result.row ≡ row.Negotiated }
+        ensures value { result ≡ place_of self.now }
+    {
+        Place {
+            row: Phase::Negotiated,
+            dialect: self.dialect,
+            told: 0,
+        }
+    }
+
     /// The stage of the session.
     pub fn stage(&self) -> Stage
         ensures { result ≡ self.now }
@@ -217,6 +230,18 @@ impl Negotiated {
 }
 
 impl SetUp {
+    /// Where the session is.
+    pub fn place(&self) -> Place
+        ensures row { result.row ≡ row.SetUp }
+        ensures value { result ≡ place_of self.now }
+    {
+        Place {
+            row: Phase::SetUp,
+            dialect: self.dialect,
+            told: 0,
+        }
+    }
+
     /// The stage of the session.
     pub fn stage(&self) -> Stage
         ensures { result ≡ self.now }
@@ -260,6 +285,18 @@ impl SetUp {
 }
 
 impl Discovered {
+    /// Where the session is.
+    pub fn place(&self) -> Place
+        ensures row { result.row ≡ row.Discovered }
+        ensures value { result ≡ place_of self.now }
+    {
+        Place {
+            row: Phase::Discovered,
+            dialect: self.dialect,
+            told: 0,
+        }
+    }
+
     /// The stage of the session.
     pub fn stage(&self) -> Stage
         ensures { result ≡ self.now }
@@ -303,6 +340,18 @@ impl Discovered {
 }
 
 impl Selected {
+    /// Where the session is.
+    pub fn place(&self) -> Place
+        ensures row { result.row ≡ row.Selected }
+        ensures value { result ≡ place_of self.now }
+    {
+        Place {
+            row: Phase::Selected,
+            dialect: self.dialect,
+            told: 0,
+        }
+    }
+
     /// The stage of the session.
     pub fn stage(&self) -> Stage
         ensures { result ≡ self.now }
@@ -369,6 +418,14 @@ impl Authorized {
         ensures { result ≡ carried_stage row.Authorized carried }
     {
         Authorized { carried }
+    }
+
+    /// Where the session is.
+    pub fn place(&self) -> Place
+        ensures row { result.row ≡ row.Authorized }
+        ensures value { result ≡ place_of self.now }
+    {
+        self.carried.place(Phase::Authorized)
     }
 
     /// The stage of the session.

@@ -2,7 +2,7 @@
 use Rattle.std.proofs.Common.{◌≡◌, ◌<◌, ◌≤◌, ℕ, zero, suc, ◌+◌, ◌-◌, List, [], ◌∷◌, ◌++◌, length, map, take, drop, get_or, set, replicate, min, max, refl, sym, ap, subst, ◌∙◌, arith, append_assoc}
 use Rattle.std.specs.Prelude.{sum, sum_by, fold, slice_index}
 use Rattle.std.proofs.Math.Seq.{split_at}
-use Rattle.std.proofs.lemmas.List.{length-append, length-map, length-take-le, length-drop, map-append, take_more}
+use Rattle.std.proofs.lemmas.List.{length-map, length-take-le, length-drop, map-append, take_more}
 use Rattle.std.proofs.lemmas.List.Sums.{sum_by-append, sum_by-cons, fold-append}
 use Rattle.power_share.specs.Sharing.{Sharing, greatest_ask, taken_up_to, IsBearable, IsLevel, IsShare, IsShown, told_to_others, at_post, with_post}
 use Rattle.power_share.specs.Sharing as sharing

@@ -1,13 +1,8 @@
 -- Where nothing is to be done.
-use Rattle.std.proofs.Common.{◌≡◌, ℕ, Bool, true, false, if◌then◌else◌, List, [], ◌∷◌, Option, Some, None, Result, Ok, Err, refl, sym, ap, subst, ◌∙◌}
-use Rattle.charge_world.specs.declared.ports.Order.{Order}
-use Rattle.session_words.specs.declared.cause.EndCause.{EndCause}
+use Rattle.std.proofs.Common.{◌≡◌, Bool, true, false, None, refl, ap, subst, ◌∙◌}
 use Rattle.session_words.specs.declared.plan.PostPlan.{PostPlan}
-use Rattle.v2gtp_frames.specs.declared.FrameFault.{FrameFault}
-use Rattle.v2gtp_frames.specs.Reading.{whole_at}
-use Rattle.session_rules.specs.Stages.{is_waiting}
-use Rattle.station_spec.specs.States.{Spoken, Agenda, Part, Repeating, Timing, Eventing, Wording, Session, State, Todo, nothing, is_done, is_none, first, first_of}
-use Rattle.station_spec.specs.Deciding.{ending_by, decide, repeating, timing, eventing, fronting, fronting_by, from_wording, from_eventing, from_timing, from_repeating, from_part, decided}
+use Rattle.station_spec.specs.States.{Agenda, Part, Repeating, Timing, Eventing, Wording, State, is_done, is_none, first}
+use Rattle.station_spec.specs.Deciding.{decide, repeating, timing, eventing, fronting, from_wording, from_eventing, from_timing, from_repeating, from_part, decided}
 
 behind_if : (agenda : Agenda) (part : Part) (s rest : State) (b : Bool) → is_done agenda ≡ b → first (decide agenda part s rest).agenda ≡ None → decide agenda part s rest ≡ rest
 behind_if agenda part s rest true e h = rw e

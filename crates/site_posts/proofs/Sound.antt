@@ -1,5 +1,5 @@
 -- Whatever a post hears, decides, reads and does, it stays sound.
-use Rattle.std.proofs.Common.{◌≡◌, ◌≤◌, ℕ, Bool, Result, Ok, Err, true, false, ◌&&◌, if◌then◌else◌, List, [], ◌∷◌, length, Option, Some, None, unwrap_or, refl, sym, ap, subst, ◌∙◌, arith, inl, inr, ◌⊎◌}
+use Rattle.std.proofs.Common.{◌≡◌, ◌≤◌, ℕ, Bool, Result, Ok, Err, true, false, ◌&&◌, if◌then◌else◌, List, [], length, Option, Some, None, unwrap_or, refl, sym, ap, subst, ◌∙◌, arith, inl, inr}
 use Rattle.std.specs.Prelude.{Contains, MatchBool}
 use Rattle.std.specs.Option.{option_map}
 use Rattle.charge_world.specs.declared.heard.PlantEvent.{PlantEvent}
@@ -32,15 +32,19 @@ use Rattle.session_rules.specs.Stages.{is_waiting, confirmed_row}
 use Rattle.session_rules.specs.Verdict.{verdict, is_accepted}
 use Rattle.post_spec.specs.Codecs.{Judged, Negotiated, Asked, WrongSide, Refused, judged_word, Codecs, Judges}
 use Rattle.post_spec.specs.Steps.{Event, Came, Bytes, Gone, Datagram, Plant, Clock, Over, Act, Give, Send, Answer, End, Reading}
-use Rattle.station_spec.specs.States.{Spoken, Response, Said, Agenda, Session, State, nothing, fresh, first_session, is_done}
+use Rattle.station_spec.specs.States.{Said, Agenda, Session, State, nothing, fresh, is_done}
 use Rattle.station_spec.specs.Blocks.{IsPlantEvent}
-use Rattle.station_spec.specs.Deciding.{ending_in, ending_by, repeating, timing, eventing, charging, charging_by, confirming, confirms, watch, fronting, fronting_by, decided}
-use Rattle.station_spec.specs.Judging.{Payload, speaks, speaks_in, payload_by, payload_in, wanted, shows, asked_behind, asked_session, chosen_stage, judged, taken_in, read, filled, IsShown, IsRead}
+use Rattle.station_spec.specs.Deciding.{ending_in, ending_by, repeating, timing, eventing, charging_by, confirming, confirms, fronting, fronting_by, decided}
+use Rattle.station_spec.specs.Judging.{Payload, speaks, speaks_in, payload_by, payload_in, wanted, shows, asked_behind, chosen_stage, judged, taken_in, read, IsShown}
 use Rattle.station_spec.specs.Hearing.{heard_facts, charger_facts, session_opened, with_bytes, hearing}
+use Rattle.station_spec.specs.Next.{IsQuiet}
 use Rattle.station_spec.specs.Acting.{since_order, failing, live_ordered, giving, replied, agenda_said, saying, acted}
-use Rattle.station_laws.proofs.Decided.{Parts, decided_by}
+use Rattle.station_laws.proofs.Decided.{decided_by}
+use Rattle.valid_isolation.specs.Isolated.{KeepsIsolation, HasJudged}
+use Rattle.valid_isolation.proofs.Kept.{decided_kept, quiet_isolated, heard_kept, word_kept, acted_kept, fresh_kept}
+use Rattle.site_codec.specs.Views.{ComesFirst}
 use Rattle.site_codec.specs.Judging.{ChoosesOffered, NegotiatesFirst}
-use Rattle.site_codec.specs.Replies.{IsPlan, AreFacts, IsAnswer, IsGiven}
+use Rattle.site_codec.specs.Replies.{IsPlan, AreFacts}
 use Rattle.site_posts.specs.Sound.{IsOffered, IsSoundSession, IsSoundIn, CanSay, IsSound}
 
 -- what was heard of the charger is within its types
@@ -54,7 +58,7 @@ IsEvent Clock = Unit {0}
 IsEvent Over = Unit {0}
 
 pub fresh_sound : (Reads : Dialect → List ℕ → Option Word → Type 0) (plan : PostPlan) → IsSound Reads plan fresh
-fresh_sound Reads plan = record { facts = record { voltage = omega arith; current = omega arith }; session = tt; reply = tt }
+fresh_sound Reads plan = record { facts = record { voltage = omega arith; current = omega arith }; session = tt; reply = tt; isolation = fresh_kept }
 
 -- a hearing
 charger_sound : (event : PlantEvent) (f : Facts) → IsPlantEvent event → AreFacts f → AreFacts (charger_facts event f)
@@ -84,11 +88,12 @@ fed_sound : (plan : PostPlan) (bytes : List ℕ) (session : Option Session) → 
 fed_sound plan bytes None h = tt
 fed_sound plan bytes (Some t) h = record { told = h.told; asked = h.asked; offered = h.offered }
 
-pub heard_sound : (Reads : Dialect → List ℕ → Option Word → Type 0) (plan : PostPlan) (s : State) (at : ℕ) (event : Event) → IsEvent event → IsSound Reads plan s → IsSound Reads plan (hearing at event s)
-heard_sound Reads plan s at event b h = record {
+pub heard_sound : (Reads : Dialect → List ℕ → Option Word → Type 0) (plan : PostPlan) (s : State) (at : ℕ) (event : Event) → IsEvent event → IsQuiet plan s → IsSound Reads plan s → IsSound Reads plan (hearing at event s)
+heard_sound Reads plan s at event b q h = record {
   facts = facts_sound event s.facts b h.facts;
   session = fed_sound plan _ (session_opened s.arrived s.clock s.session) (opened_sound plan s.arrived s.clock s.session h.session);
   reply = tt;
+  isolation = heard_kept at event s (quiet_isolated plan s q h.isolation);
 }
 
 -- what is decided without a word
@@ -158,15 +163,31 @@ eventing_says Reads plan (Plant event) s (Some t) e p f h =
 eventing_says Reads plan Clock s session e p f h = tt
 eventing_says Reads plan Over s session e p f h = ending_says Reads s.session _ s.live
 
-pub decided_sound : (Reads : Dialect → List ℕ → Option Word → Type 0) (plan : PostPlan) (s : State) → IsPlan plan → IsSound Reads plan s → IsSound Reads plan (decided plan s)
-decided_sound Reads plan s p h = decided_by (IsSound Reads plan) plan s
+-- but for the isolation
+pub record IsSpeakable (Reads : Dialect → List ℕ → Option Word → Type 0) (plan : PostPlan) (s : State) : Type 0 where
+  pub facts : AreFacts s.facts
+  pub session : IsSoundIn plan s.session
+  pub reply : CanSay Reads s.agenda.reply
+
+with_isolation : (Reads : Dialect → List ℕ → Option Word → Type 0) (plan : PostPlan) (s : State) → IsSpeakable Reads plan s → KeepsIsolation s → IsSound Reads plan s
+with_isolation Reads plan s h k = record { facts = h.facts; session = h.session; reply = h.reply; isolation = k }
+
+decided_speakable : (Reads : Dialect → List ℕ → Option Word → Type 0) (plan : PostPlan) (s : State) → IsPlan plan → IsSound Reads plan s → IsSpeakable Reads plan (decided plan s)
+decided_speakable Reads plan s p h = decided_by (IsSpeakable Reads plan) plan s
     (λ d. record {
       repeats = record { facts = h.facts; session = h.session; reply = repeating_says Reads s.facts.contactor };
       times = record { facts = h.facts; session = h.session; reply = timing_says Reads s.session s.clock s.live };
       events = record { facts = h.facts; session = h.session; reply = eventing_says Reads plan s.event s s.session refl p h.facts h.session };
       fronts = record { facts = h.facts; session = h.session; reply = fronting_says Reads s.session s.live };
     })
-    h
+    (record { facts = h.facts; session = h.session; reply = h.reply })
+
+pub decided_sound : (Reads : Dialect → List ℕ → Option Word → Type 0) (plan : PostPlan) (s : State) → IsPlan plan → IsSound Reads plan s → IsSound Reads plan (decided plan s)
+decided_sound Reads plan s p h = with_isolation Reads plan (decided plan s) (decided_speakable Reads plan s p h) (decided_kept plan s h.isolation).kept
+
+-- once all that was decided is done, the isolation is valid
+pub decided_judged : (Reads : Dialect → List ℕ → Option Word → Type 0) (plan : PostPlan) (s : State) → IsSound Reads plan s → HasJudged (decided plan s)
+decided_judged Reads plan s h = (decided_kept plan s h.isolation).judged
 
 -- a word
 facts_kept : (stage : Stage) (f : Facts) (named : SessionId) (a : Ask) → AreFacts f → AreFacts (facts_by stage f named a)
@@ -263,7 +284,7 @@ asked_says c plan s t bytes r shown false p f h q less = record {
 }
 
 judged_sound : (c : Codecs) (plan : PostPlan) (Shows : ℕ → ℕ → Type 0) (s : State) (t : Session) (bytes : List ℕ) (j : Judged) (shown : ℕ) → NegotiatesFirst c.Negotiates → ChoosesOffered c.Negotiates → IsBounded Shows → IsPlan plan → AreFacts s.facts → IsSoundSession plan t
-    → Judges c plan.dialects.items (speaks t.stage) bytes j → IsShown Shows plan s (Some t) j shown → ((chosen : Option Dialect) (response : List ℕ) → j ≡ Negotiated chosen response → length response ≤ 4) → IsSound c.Reads plan (judged plan s t j shown)
+    → Judges c plan.dialects.items (speaks t.stage) bytes j → IsShown Shows plan s (Some t) j shown → ((chosen : Option Dialect) (response : List ℕ) → j ≡ Negotiated chosen response → length response ≤ 4) → IsSpeakable c.Reads plan (judged plan s t j shown)
 judged_sound c plan Shows s t bytes (Negotiated chosen response) shown first chooses most p f h j shows short = record {
   facts = f;
   session = chosen_sound c plan t bytes chosen response _ chooses h j;
@@ -314,19 +335,19 @@ agenda_says Reads (Some cause) session a live = ending_says Reads session cause 
 
 gave_sound : (Reads : Dialect → List ℕ → Option Word → Type 0) (plan : PostPlan) (o : Order) (taken : Bool) (s : State) → IsSound Reads plan s → IsSound Reads plan (giving o taken s)
 gave_sound Reads plan o true s h =
-    record { facts = record { voltage = h.facts.voltage; current = h.facts.current }; session = since_sound plan o s.clock s.session h.session; reply = h.reply }
+    record { facts = record { voltage = h.facts.voltage; current = h.facts.current }; session = since_sound plan o s.clock s.session h.session; reply = h.reply; isolation = acted_kept (Give o) true s h.isolation }
 gave_sound Reads plan o false s h =
-    record { facts = record { voltage = h.facts.voltage; current = h.facts.current }; session = h.session; reply = failing_says Reads s.agenda.ending s.session OrderFailed (live_ordered o false s.live) }
+    record { facts = record { voltage = h.facts.voltage; current = h.facts.current }; session = h.session; reply = failing_says Reads s.agenda.ending s.session OrderFailed (live_ordered o false s.live); isolation = acted_kept (Give o) false s h.isolation }
 
 said_sound : (Reads : Dialect → List ℕ → Option Word → Type 0) (plan : PostPlan) (taken : Bool) (s : State) → IsSound Reads plan s → IsSound Reads plan (saying taken s)
-said_sound Reads plan true s h = record { facts = h.facts; session = replied_sound plan s.clock s.session h.session; reply = agenda_says Reads s.agenda.behind_reply s.session s.agenda s.live }
-said_sound Reads plan false s h = record { facts = h.facts; session = h.session; reply = failing_says Reads s.agenda.ending s.session SendFailed s.live }
+said_sound Reads plan true s h = record { facts = h.facts; session = replied_sound plan s.clock s.session h.session; reply = agenda_says Reads s.agenda.behind_reply s.session s.agenda s.live; isolation = acted_kept (Send []) true s h.isolation }
+said_sound Reads plan false s h = record { facts = h.facts; session = h.session; reply = failing_says Reads s.agenda.ending s.session SendFailed s.live; isolation = acted_kept (Send []) false s h.isolation }
 
 pub acted_sound : (Reads : Dialect → List ℕ → Option Word → Type 0) (plan : PostPlan) (a : Act) (taken : Bool) (s : State) → IsSound Reads plan s → IsSound Reads plan (acted a taken s)
 acted_sound Reads plan (Give o) taken s h = gave_sound Reads plan o taken s h
 acted_sound Reads plan (Send bytes) taken s h = said_sound Reads plan taken s h
-acted_sound Reads plan (Answer bytes) taken s h = record { facts = h.facts; session = h.session; reply = h.reply }
-acted_sound Reads plan (End cause) taken s h = record { facts = record { voltage = h.facts.voltage; current = h.facts.current }; session = tt; reply = tt }
+acted_sound Reads plan (Answer bytes) taken s h = record { facts = h.facts; session = h.session; reply = h.reply; isolation = h.isolation }
+acted_sound Reads plan (End cause) taken s h = record { facts = record { voltage = h.facts.voltage; current = h.facts.current }; session = tt; reply = tt; isolation = acted_kept (End cause) taken s h.isolation }
 
 -- what was read
 abbrev pub IsShort : Judged → Type 0
@@ -345,7 +366,7 @@ payload_if t p true e h = absurd (let g : None ≡ Some p = h in cc)
 payload_if t p false e h = payload_speaks (whole_at t.unread) t p h
 
 taken_sound : (c : Codecs) (plan : PostPlan) (Shows : ℕ → ℕ → Type 0) (s : State) (session : Option Session) (p : Payload) (r : Reading) → NegotiatesFirst c.Negotiates → ChoosesOffered c.Negotiates → IsBounded Shows → IsPlan plan → AreFacts s.facts → IsSoundIn plan session
-    → payload_in session ≡ Some p → Judges c plan.dialects.items p.dialect p.bytes r.judged → IsShown Shows plan s session r.judged r.shown → IsShort r.judged → CanSay c.Reads s.agenda.reply → IsSound c.Reads plan (taken_in plan s session r)
+    → payload_in session ≡ Some p → Judges c plan.dialects.items p.dialect p.bytes r.judged → IsShown Shows plan s session r.judged r.shown → IsShort r.judged → CanSay c.Reads s.agenda.reply → IsSpeakable c.Reads plan (taken_in plan s session r)
 taken_sound c plan Shows s None p r first chooses most i f h w j shown short says = absurd (let g : None ≡ Some p = w in cc)
 taken_sound c plan Shows s (Some t) p r first chooses most i f h w j shown short says =
     let speaks_is = payload_if t p (is_waiting t.stage.row) refl w in
@@ -353,12 +374,33 @@ taken_sound c plan Shows s (Some t) p r first chooses most i f h w j shown short
     (λ chosen response e. subst IsShort e short)
 
 read_if : (c : Codecs) (plan : PostPlan) (Shows : ℕ → ℕ → Type 0) (s : State) (p : Payload) (r : Reading) (b : Bool) → is_done s.agenda ≡ b → NegotiatesFirst c.Negotiates → ChoosesOffered c.Negotiates → IsBounded Shows → IsPlan plan → IsSound c.Reads plan s
-    → wanted s ≡ Some p → Judges c plan.dialects.items p.dialect p.bytes r.judged → IsShown Shows plan s s.session r.judged r.shown → IsShort r.judged → IsSound c.Reads plan (read plan s (Some r))
+    → wanted s ≡ Some p → Judges c plan.dialects.items p.dialect p.bytes r.judged → IsShown Shows plan s s.session r.judged r.shown → IsShort r.judged → IsSpeakable c.Reads plan (read plan s (Some r))
 read_if c plan Shows s p r true e first chooses most i h w j shown short =
     let g : payload_in s.session ≡ Some p = rw e at w in
     taken_sound c plan Shows s s.session p r first chooses most i h.facts h.session g j shown short h.reply
 read_if c plan Shows s p r false e first chooses most i h w j shown short = absurd (let g : None ≡ Some p = rw e at w in cc)
 
-pub read_sound : (c : Codecs) (plan : PostPlan) (Shows : ℕ → ℕ → Type 0) (s : State) (p : Payload) (r : Reading) → NegotiatesFirst c.Negotiates → ChoosesOffered c.Negotiates → IsBounded Shows → IsPlan plan → IsSound c.Reads plan s
+pub read_sound : (c : Codecs) (plan : PostPlan) (Shows : ℕ → ℕ → Type 0) (s : State) (p : Payload) (r : Reading) → NegotiatesFirst c.Negotiates → ChoosesOffered c.Negotiates → IsBounded Shows → IsPlan plan → IsSound c.Reads plan s → HasJudged s
     → wanted s ≡ Some p → Judges c plan.dialects.items p.dialect p.bytes r.judged → IsShown Shows plan s s.session r.judged r.shown → IsShort r.judged → IsSound c.Reads plan (read plan s (Some r))
-read_sound c plan Shows s p r first chooses most i h w j shown short = read_if c plan Shows s p r (is_done s.agenda) refl first chooses most i h w j shown short
+read_sound c plan Shows s p r first chooses most i h isolated w j shown short =
+    with_isolation c.Reads plan (read plan s (Some r)) (read_if c plan Shows s p r (is_done s.agenda) refl first chooses most i h w j shown short)
+    (word_kept plan s p r w (record { kept = h.isolation; judged = isolated }))
+
+-- a negotiation is read in the first row alone
+in_first : (c : Codecs) (offers : List Dialect) (t : Session) (here : Phase) (bytes : List ℕ) (j : Judged) → t.stage.row ≡ here → Judges c offers (speaks_in here t.stage.dialect) bytes j → ComesFirst (Some t) j
+in_first c offers t here bytes (Asked r) e j = tt
+in_first c offers t here bytes WrongSide e j = tt
+in_first c offers t here bytes Refused e j = tt
+in_first c offers t row.Connected bytes (Negotiated chosen response) e j = e
+in_first c offers t here bytes (Negotiated chosen response) e j = absurd (no_answer j.0 chosen response j.2)
+
+first_in : (c : Codecs) (offers : List Dialect) (session : Option Session) (p : Payload) (j : Judged) → payload_in session ≡ Some p → Judges c offers p.dialect p.bytes j → ComesFirst session j
+first_in c offers None p j w h = tt
+first_in c offers (Some t) p j w h = in_first c offers t t.stage.row p.bytes j refl (subst (λ (d : Option Dialect). Judges c offers d p.bytes j) (payload_if t p (is_waiting t.stage.row) refl w) h)
+
+first_if : (c : Codecs) (offers : List Dialect) (s : State) (p : Payload) (j : Judged) (b : Bool) → is_done s.agenda ≡ b → wanted s ≡ Some p → Judges c offers p.dialect p.bytes j → ComesFirst s.session j
+first_if c offers s p j true e w h = let g : payload_in s.session ≡ Some p = rw e at w in first_in c offers s.session p j g h
+first_if c offers s p j false e w h = absurd (let g : None ≡ Some p = rw e at w in cc)
+
+pub comes_first : (c : Codecs) (offers : List Dialect) (s : State) (p : Payload) (j : Judged) → wanted s ≡ Some p → Judges c offers p.dialect p.bytes j → ComesFirst s.session j
+comes_first c offers s p j w h = first_if c offers s p j (is_done s.agenda) refl w h

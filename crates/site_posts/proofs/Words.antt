@@ -1,24 +1,25 @@
 -- The word that a post reads, and what it keeps of it.
-use Rattle.std.proofs.Common.{◌≡◌, ◌<◌, ◌≤◌, ℕ, suc, ◌+◌, Bool, true, false, if◌then◌else◌, List, [], ◌∷◌, ◌++◌, length, map, take, drop, get_or, set, min, zero, ◌-◌, Option, Some, None, refl, sym, ap, subst, ◌∙◌, arith}
+use Rattle.std.proofs.Common.{◌≡◌, ◌<◌, ℕ, suc, ◌+◌, Bool, true, false, if◌then◌else◌, List, [], ◌∷◌, ◌++◌, length, map, take, drop, get_or, set, min, zero, ◌-◌, Option, Some, None, refl, sym, ap, subst, ◌∙◌, arith}
 use Rattle.std.specs.Prelude.{MatchBool, sum_by}
 use Rattle.std.proofs.lemmas.List.{get_or-set_same, set-get_or, get_or_read, take-set, drop-set-lt}
 use Rattle.charge_world.specs.declared.offer.Dialect.{Dialect}
 use Rattle.session_words.specs.declared.plan.PostPlan.{PostPlan}
 use Rattle.session_words.specs.declared.word.Word.{Word}
 use Rattle.power_share.specs.Sharing.{IsLevel}
-use Rattle.post_spec.specs.Codecs.{Judged, Negotiated, Asked, WrongSide, Refused, Codecs, Judges}
+use Rattle.post_spec.specs.Codecs.{Judged, Negotiated, Asked, WrongSide, Refused, Codecs}
 use Rattle.post_spec.specs.Steps.{Reading}
 use Rattle.station_spec.specs.States.{Session, State}
-use Rattle.station_spec.specs.Deciding.{decided}
-use Rattle.station_spec.specs.Judging.{Payload, wanted, shows, asked_behind, read, filled, IsShown, IsRead}
-use Rattle.site_codec.specs.Views.{asks_in, IsShownFor}
-use Rattle.site_codec.specs.Judging.{ChoosesOffered, NegotiatesFirst, IsJudged}
+use Rattle.station_spec.specs.Judging.{Payload, wanted, shows, asked_behind, read, IsShown, IsRead}
+use Rattle.valid_isolation.specs.Isolated.{IsIsolated, HasJudged}
+use Rattle.valid_isolation.proofs.Kept.{word_isolated}
+use Rattle.site_codec.specs.Views.{asks_in, IsShownFor, ComesFirst}
+use Rattle.site_codec.specs.Judging.{ChoosesOffered, NegotiatesFirst}
 use Rattle.site_codec.specs.Replies.{IsPlan}
 use Rattle.site_posts.specs.declared.place.Place.{Place}
 use Rattle.site_posts.specs.Sound.{IsSound}
 use Rattle.site_posts.specs.Places.{Shares, filled_place, asked_at, told_at}
 use Rattle.site_posts.specs.Filling.{no_place, at, decided_place, word_place, IsShort, JudgesFor, Reads, Fills}
-use Rattle.site_posts.proofs.Sound.{decided_sound, read_sound, IsBounded}
+use Rattle.site_posts.proofs.Sound.{decided_sound, decided_judged, read_sound, comes_first, IsBounded}
 use Rattle.site_posts.proofs.Sound as sound
 
 -- what is shown for a word
@@ -63,9 +64,9 @@ short_too Refused h = h
 
 -- a word is read
 some_read : (c : Codecs) (limit : ℕ) (places : List Place) (i : ℕ) (w : Option Payload) (j : Judged) (shown : ℕ) → wanted (at places i).post ≡ w → NegotiatesFirst c.Negotiates → ChoosesOffered c.Negotiates → IsPlan (at places i).plan → JudgesFor c (at places i).plan.dialects.items w (Some j)
-    → IsShownFor (Shares limit places i) (asks_in (at places i).plan (at places i).post (at places i).post.session j) shown → IsSound c.Reads (at places i).plan (at places i).post → Reads c limit places i (set places i (word_place j shown (at places i)))
-some_read c limit places i None j shown e first chooses plan judges shows s = absurd judges
-some_read c limit places i (Some payload) j shown e first chooses plan judges shows s =
+    → IsShownFor (Shares limit places i) (asks_in (at places i).plan (at places i).post (at places i).post.session j) shown → IsSound c.Reads (at places i).plan (at places i).post → HasJudged (at places i).post → Reads c limit places i (set places i (word_place j shown (at places i)))
+some_read c limit places i None j shown e first chooses plan judges shows s isolated = absurd judges
+some_read c limit places i (Some payload) j shown e first chooses plan judges shows s isolated =
     let p = at places i in
     let r : Reading = record { judged = j; shown = shown } in
     let is_shown = shown_for (Shares limit places i) p.plan p.post p.post.session j shown shows in
@@ -73,13 +74,21 @@ some_read c limit places i (Some payload) j shown e first chooses plan judges sh
       reading = Some r;
       is_read = subst (λ (w : Option Payload). IsRead c p.plan (Shares limit places i) p.post w (Some r)) (sym e) (judges.0, is_shown);
       new_is = refl;
-      sound = read_sound c p.plan (Shares limit places i) p.post payload r first chooses (bounded limit places i) plan s e judges.0 is_shown (short_too j judges.1);
+      sound = read_sound c p.plan (Shares limit places i) p.post payload r first chooses (bounded limit places i) plan s isolated e judges.0 is_shown (short_too j judges.1);
     }
 
 pub reads_some : (c : Codecs) (limit : ℕ) (places new : List Place) (i : ℕ) (j : Judged) (shown : ℕ) → NegotiatesFirst c.Negotiates → ChoosesOffered c.Negotiates → IsPlan (at places i).plan → JudgesFor c (at places i).plan.dialects.items (wanted (at places i).post) (Some j)
-    → IsShownFor (Shares limit places i) (asks_in (at places i).plan (at places i).post (at places i).post.session j) shown → IsSound c.Reads (at places i).plan (at places i).post → new ≡ set places i (word_place j shown (at places i)) → Reads c limit places i new
-reads_some c limit places new i j shown first chooses plan judges shows s e =
-    subst (Reads c limit places i) (sym e) (some_read c limit places i (wanted (at places i).post) j shown refl first chooses plan judges shows s)
+    → IsShownFor (Shares limit places i) (asks_in (at places i).plan (at places i).post (at places i).post.session j) shown → IsSound c.Reads (at places i).plan (at places i).post → HasJudged (at places i).post → new ≡ set places i (word_place j shown (at places i)) → Reads c limit places i new
+reads_some c limit places new i j shown first chooses plan judges shows s isolated e =
+    subst (Reads c limit places i) (sym e) (some_read c limit places i (wanted (at places i).post) j shown refl first chooses plan judges shows s isolated)
+
+-- what a post has to be that reads a word
+judged_some : (c : Codecs) (offers : List Dialect) (s : State) (w : Option Payload) (j : Judged) → wanted s ≡ w → JudgesFor c offers w (Some j) → HasJudged s → IsIsolated s.session s.facts.isolation × ComesFirst s.session j
+judged_some c offers s None j e judges isolated = absurd judges
+judged_some c offers s (Some p) j e judges isolated = (word_isolated s p e isolated, comes_first c offers s p j e judges.0)
+
+pub may_read : (c : Codecs) (offers : List Dialect) (s : State) (j : Judged) → JudgesFor c offers (wanted s) (Some j) → HasJudged s → IsIsolated s.session s.facts.isolation × ComesFirst s.session j
+may_read c offers s j judges isolated = judged_some c offers s (wanted s) j refl judges isolated
 
 -- what was read with these shares was read with others that say the same
 show_if : (S T : ℕ → ℕ → Type 0) (b : Bool) (asked shown : ℕ) → ((asked n : ℕ) → S asked n → T asked n) → MatchBool b (S asked shown) (shown ≡ 0) → MatchBool b (T asked shown) (shown ≡ 0)
@@ -131,13 +140,22 @@ fills c limit places mid new i within e r =
       sound = subst (λ (p : Place). IsSound c.Reads p.plan (read p.plan p.post r.reading)) here r.sound;
     }
 
--- what is decided keeps its plan, and stays sound
+-- what is decided keeps its plan, stays sound, and has judged what was heard
+pub record IsDecided (Reads : Dialect → List ℕ → Option Word → Type 0) (p : Place) : Type 0 where
+  pub plan : IsPlan p.plan
+  pub sound : IsSound Reads p.plan p.post
+  pub judged : HasJudged p.post
+
 pub decided_at : (Reads : Dialect → List ℕ → Option Word → Type 0) (places mid : List Place) (i : ℕ) → i < length places → mid ≡ set places i (decided_place (at places i)) → IsPlan (at places i).plan → IsSound Reads (at places i).plan (at places i).post
-    → IsPlan (at mid i).plan × IsSound Reads (at mid i).plan (at mid i).post
+    → IsDecided Reads (at mid i)
 decided_at Reads places mid i within e plan s =
     let d = decided_place (at places i) in
     let here : at mid i ≡ d = ap (λ (ps : List Place). at ps i) e ∙ get_or-set_same places i d no_place within in
-    subst (λ (p : Place). IsPlan p.plan × IsSound Reads p.plan p.post) (sym here) (plan, decided_sound Reads (at places i).plan (at places i).post plan s)
+    subst (IsDecided Reads) (sym here) (record {
+      plan = plan;
+      sound = decided_sound Reads (at places i).plan (at places i).post plan s;
+      judged = decided_judged Reads (at places i).plan (at places i).post s;
+    })
 
 -- what indexing gives, at any default
 pub read_at : (places : List Place) (i : ℕ) (x : Place) → i < length places → x ≡ get_or places i x → x ≡ at places i

@@ -1,5 +1,5 @@
 -- Each act leaves less to do.
-use Rattle.std.proofs.Common.{◌≡◌, ◌<◌, ◌≤◌, ℕ, ◌+◌, ◌*◌, Bool, true, false, if◌then◌else◌, List, [], ◌∷◌, length, drop, Option, Some, None, Result, Ok, Err, refl, sym, ap, subst, ◌∙◌, arith}
+use Rattle.std.proofs.Common.{◌≡◌, ◌<◌, ◌≤◌, ℕ, ◌+◌, ◌*◌, Bool, true, false, if◌then◌else◌, List, length, Option, Some, None, Result, Ok, Err, refl, sym, ap, subst, arith}
 use Rattle.std.specs.Option.{option_map}
 use Rattle.std.proofs.lemmas.List.{length-drop}
 use Rattle.charge_world.specs.declared.ports.Order.{Order}
@@ -8,14 +8,14 @@ use Rattle.session_words.specs.declared.cause.EndCause.{EndCause}
 use Rattle.session_words.specs.declared.cause.EndCause.TheVariants.{SendFailed, OrderFailed}
 use Rattle.session_words.specs.declared.plan.PostPlan.{PostPlan}
 use Rattle.v2gtp_frames.specs.declared.FrameFault.{FrameFault}
-use Rattle.v2gtp_frames.specs.Reading.{whole_at, behind_front, payload_at}
+use Rattle.v2gtp_frames.specs.Reading.{whole_at, behind_front}
 use Rattle.v2gtp_frames.proofs.Growing.{whole_fits}
 use Rattle.session_rules.specs.Stages.{is_waiting}
 use Rattle.post_spec.specs.Codecs.{Codecs, Judged, Negotiated, Asked, WrongSide, Refused}
-use Rattle.post_spec.specs.Steps.{Act, Give, Send, Answer, End, Reading}
+use Rattle.post_spec.specs.Steps.{Act, Reading}
 use Rattle.station_spec.specs.States.{Spoken, Agenda, Part, Repeating, Timing, Eventing, Wording, Session, State, nothing, is_done, is_none, first, first_of}
 use Rattle.station_spec.specs.States as states
-use Rattle.station_spec.specs.Deciding.{opening_if, ending_by, ending_in, decide, repeating, timing, eventing, fronting, fronting_by, from_wording, from_eventing, from_timing, from_repeating, from_part, decided}
+use Rattle.station_spec.specs.Deciding.{opening_if, ending_in, decide, repeating, timing, eventing, fronting, fronting_by, from_wording, from_eventing, from_timing, from_repeating, from_part, decided}
 use Rattle.station_spec.specs.Judging.{Payload, payload_by, payload_in, wanted, unmatched, judged, taken_in, read, filled, IsRead}
 use Rattle.station_spec.specs.Acting.{since_order, live_ordered, failing, giving, replied, agenda_said, saying, telling, ended, acted}
 use Rattle.station_spec.specs.Next.{IsDone, Acts}

@@ -1,4 +1,4 @@
--- Own: what holds of each post whatever it heard, so that its codec can spell each of its replies.
+-- Own: what holds of each post whatever it heard, so that its codec can spell each of its replies, and that its isolation is valid where a row needs it.
 use Rattle.std.specs.Prelude.{◌≡◌, ◌≤◌, ℕ, List, length, Option, Some, None, Contains, ◌⊎◌}
 use Rattle.charge_world.specs.declared.offer.Dialect.{Dialect}
 use Rattle.session_words.specs.declared.phase.Phase.TheVariants as row
@@ -6,6 +6,7 @@ use Rattle.session_words.specs.declared.plan.PostPlan.{PostPlan}
 use Rattle.session_words.specs.declared.word.Word.{Word}
 use Rattle.session_rules.specs.declared.stage.Stage.{Stage}
 use Rattle.station_spec.specs.States.{Spoken, Response, Said, Session, State}
+use Rattle.valid_isolation.specs.Isolated.{KeepsIsolation}
 use Rattle.site_codec.specs.Replies.{AreFacts, IsGiven}
 
 -- once a dialect was chosen, it is one of the plan's
@@ -31,3 +32,4 @@ pub record IsSound (Reads : Dialect → List ℕ → Option Word → Type 0) (pl
   pub facts : AreFacts s.facts
   pub session : IsSoundIn plan s.session
   pub reply : CanSay Reads s.agenda.reply
+  pub isolation : KeepsIsolation s

@@ -4,7 +4,8 @@ ghost use Rattle.std.specs.Prelude.{◌≡◌, ◌≤◌, ◌<◌, length, Some}
 ghost use Rattle.std.specs.Option.{option_map};
 ghost use Rattle.post_spec.specs.Codecs.{codecs};
 ghost use Rattle.station_spec.specs.Judging.{wanted};
-ghost use Rattle.site_codec.specs.Views.{judged_of, asks_in, IsShownFor};
+ghost use Rattle.valid_isolation.specs.Isolated.{IsIsolated, HasJudged};
+ghost use Rattle.site_codec.specs.Views.{judged_of, asks_in, IsShownFor, ComesFirst};
 ghost use Rattle.site_codec.specs.Replies.{IsPlan};
 ghost use Rattle.site_posts.specs.Sound.{IsSound};
 ghost use Rattle.site_posts.specs.Places.{Shares};
@@ -25,7 +26,9 @@ impl Place {
 
     /// Reads a word that was judged so, with the watts that it is shown.
     fn read(&mut self, judged: Judged, shown: u32)
-        requires { IsPlan self.old.plan }
+        requires plan { IsPlan self.old.plan }
+        requires isolation { IsIsolated self.old.post.session self.old.post.facts.isolation }
+        requires first { ComesFirst self.old.post.session (judged_of judged) }
         ensures { self.new ≡ word_place (judged_of judged) shown self.old }
     {
         self.post.read(&self.plan, judged, shown);
@@ -83,12 +86,13 @@ pub fn fill<C: Codec>(codec: &mut C, places: &mut [Place], i: usize, limit: u32)
     read_word(codec, places, i, limit);
 }
 
-/// Reads the word that post i wants, if it wants one.
+/// Reads the word that post i wants, if it wants one. What was heard is judged by then.
 fn read_word<C: Codec>(codec: &mut C, places: &mut [Place], i: usize, limit: u32)
     requires within { i < length places.old }
     requires few { length places.old ≤ 8 }
     requires plan { IsPlan (at places.old i).plan }
     requires sound { IsSound C.reads (at places.old i).plan (at places.old i).post }
+    requires judged { HasJudged (at places.old i).post }
     ensures { Reads (codecs C.negotiates C.reads C.encodes) limit places.old i places.new }
 {
     match judge(codec, &places[i]) {

@@ -49,14 +49,14 @@ event_bounds k what.Tick bytes b = tt
 event_bounds k what.Over bytes b = tt
 
 -- a post stays ready
-place_ready : (Reads : Dialect → List ℕ → Option Word → Type 0) (k now : ℕ) (h : Heard) (bytes : List ℕ) (p : Place) → IsHearing h bytes → IsReady Reads p → IsReady Reads (heard_place k now h.what bytes p)
-place_ready Reads k now h bytes p bounds r = record { plan = r.plan; sound = heard_sound Reads p.plan p.post now (event_at k h.what bytes) (event_bounds k h.what bytes bounds.brings) r.sound }
+place_ready : (Reads : Dialect → List ℕ → Option Word → Type 0) (k now : ℕ) (h : Heard) (bytes : List ℕ) (p : Place) → IsHearing h bytes → RestsAt p → IsReady Reads p → IsReady Reads (heard_place k now h.what bytes p)
+place_ready Reads k now h bytes p bounds rest r = record { plan = r.plan; sound = heard_sound Reads p.plan p.post now (event_at k h.what bytes) (event_bounds k h.what bytes bounds.brings) rest r.sound }
 
 pub heard_ready : (Reads : Dialect → List ℕ → Option Word → Type 0) (now : ℕ) (h : Heard) (bytes : List ℕ) (old new : List Place) → length new ≡ length old → IsHearing h bytes → HeardAll now h.what bytes old new
-    → All (IsReady Reads) old → All (IsReady Reads) new
-heard_ready Reads now h bytes old new same bounds all ready = λ j d less.
+    → All RestsAt old → All (IsReady Reads) old → All (IsReady Reads) new
+heard_ready Reads now h bytes old new same bounds all rest ready = λ j d less.
     let within : j < length old = omega (arith, same, less) in
-    subst (IsReady Reads) (sym (all j d within)) (place_ready Reads (j + 1) now h bytes (get_or old j d) bounds (ready j d within))
+    subst (IsReady Reads) (sym (all j d within)) (place_ready Reads (j + 1) now h bytes (get_or old j d) bounds (rest j d within) (ready j d within))
 
 -- posts that heard nothing yet
 pub made_ready : (Reads : Dialect → List ℕ → Option Word → Type 0) (plans : List PostPlan) → All (λ p. IsPlan p.plan) (map place_of (map unheard plans)) → (k : ℕ) (d : Place) → k < length (map place_of (map unheard plans))

@@ -1,4 +1,4 @@
-use Rattle.std.proofs.Common.{◌≡◌, ◌+◌, ◌-◌, ℕ, List, length, set, replicate, refl, ap, ◌∙◌, arith}
+use Rattle.std.proofs.Common.{◌≡◌, ◌+◌, ◌-◌, ℕ, List, length, set, replicate, ap, ◌∙◌, arith}
 use Rattle.power_share.specs.Sharing.{Sharing, asked}
 use Rattle.site_posts.specs.Places.{asked_at, asks_so_far}
 use Rattle.site_posts.proofs.Levels.{set_asks}

@@ -14,7 +14,7 @@ use Rattle.endpoint.proofs.Written.{err_written}
 use Rattle.site_turns.proofs.hearing.hear_counted.Goals as goal
 
 pub answer_all-requires-clause-ready : goal.answer_all-requires-clause-ready
-answer_all-requires-clause-ready g c = heard_ready g.C.Coded.reads c.args.so_far.now.moment c.args.heard.now _ c.args.places.now c.take_in.new.places (omega (arith, c.take_in.auto.places)) c.take_in.ensures.bounds c.take_in.ensures.heard c.requires.ready
+answer_all-requires-clause-ready g c = heard_ready g.C.Coded.reads c.args.so_far.now.moment c.args.heard.now _ c.args.places.now c.take_in.new.places (omega (arith, c.take_in.auto.places)) c.take_in.ensures.bounds c.take_in.ensures.heard c.requires.quiet c.requires.ready
 
 pub write_heard-requires-clause-post : goal.write_heard-requires-clause-post
 write_heard-requires-clause-post g c = of_eight (length c.args.places.now) c.args.heard.now.what c.requires.few c.requires.post
@@ -33,7 +33,7 @@ returns-clause-traced g c n number =
     text_then _ _ _ _ _ _ (AwaitsLine n e) (IsTraced m) (IsWrittenSo m c.answer_all.result) (c.in_ok-write_heard.ensures.traced n _ number) c.answer_all.ensures.traced
 
 pub returns-in_err-write_heard-clause-ready : goal.returns-in_err-write_heard-clause-ready
-returns-in_err-write_heard-clause-ready g c = heard_ready g.C.Coded.reads c.args.so_far.now.moment c.args.heard.now _ c.args.places.now c.take_in.new.places (omega (arith, c.take_in.auto.places)) c.take_in.ensures.bounds c.take_in.ensures.heard c.requires.ready
+returns-in_err-write_heard-clause-ready g c = heard_ready g.C.Coded.reads c.args.so_far.now.moment c.args.heard.now _ c.args.places.now c.take_in.new.places (omega (arith, c.take_in.auto.places)) c.take_in.ensures.bounds c.take_in.ensures.heard c.requires.quiet c.requires.ready
 
 pub returns-in_err-write_heard-clause-carried : goal.returns-in_err-write_heard-clause-carried
 returns-in_err-write_heard-clause-carried g c plan k wait lim goes_on left clock waits =

@@ -1,12 +1,16 @@
-use Rattle.std.proofs.Common.{ap, sym, ◌∙◌}
-use Rattle.std.specs.Option.{option_map}
-use Rattle.station_spec.specs.States.{Session, State}
-use Rattle.secc_machine.proofs.Answering.{asked_is}
+use Rattle.std.proofs.Common.{refl, sym, ◌∙◌}
+use Rattle.secc_machine.specs.contracts.post.Post as post_view
+use Rattle.secc_machine.proofs.Answering.{answered_some, answered_none}
 use Rattle.secc_machine.proofs.post.Post.ask.Goals as goal
 
-pub returns : goal.returns
-returns c =
-    asked_is c.in-Some.stage c.args.plan.now c.args.self.now c.answer.new.self c.learn.new.self c.args.request.now c.args.shown
-    c.asked_agenda-agenda.result
-    (sym c.in-Some.is ∙ c.stage.ensures ∙ ap (λ (s : State). option_map (λ (x : Session). x.stage) s.session) c.self.view_is)
-    c.asked_agenda-agenda.ensures c.answer.ensures c.learn.ensures
+pub returns-in-Some : goal.returns-in-Some
+returns-in-Some c =
+    let s = post_view.the_view c.self.inside in
+    answered_some c.args.self.now s c.args.plan.now c.args.request.now c.args.shown _ _ _ c.self.view_is
+    (c.answer-answer.ensures.session s refl refl) c.answer-answer.ensures.facts (sym c.in-Some.is ∙ c.answer-answer.ensures.agenda s refl refl)
+
+pub returns-in-None : goal.returns-in-None
+returns-in-None c =
+    let s = post_view.the_view c.self.inside in
+    answered_none c.args.self.now s c.args.plan.now c.args.request.now c.args.shown _ _ c.self.view_is
+    (c.answer-answer.ensures.session s refl refl) c.answer-answer.ensures.facts (sym c.in-None.is ∙ c.answer-answer.ensures.agenda s refl refl)

@@ -1,7 +1,6 @@
 use Rattle.std.proofs.Common.{refl, ap}
 use Rattle.post_spec.specs.Steps.{Answer}
 use Rattle.station_spec.specs.States.{State}
-use Rattle.site_posts.specs.declared.place.Place.{Place}
 use Rattle.site_posts.proofs.place.Place.answered.Goals as goal
 
 pub returns : goal.returns
