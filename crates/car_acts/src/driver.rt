@@ -48,7 +48,7 @@ pub(crate) fn report_at(car: &Car, cause: EndCause) -> CarReport
             cycles: stage.cycles,
             cause: number,
             session: if number == 29 {
-                Some(stage.session.copied())
+                Some(stage.session)
             } else {
                 None
             },

@@ -1,4 +1,3 @@
-pub mod Counted
 pub mod Dues
 pub mod Quiet
 pub mod Onward

@@ -1,48 +1,55 @@
--- Own: where a word leads a car, and what the car keeps of that.
-use Rattle.std.specs.Prelude.{◌≡◌, ℕ, Bool, Some}
+-- Own: what a car keeps behind a word, by where the word leads.
+use Rattle.std.specs.Prelude.{◌≡◌, ℕ, is_some, Option, Some, None}
 use Rattle.std.specs.Option.{option_map}
+use Rattle.charge_world.specs.declared.ports.Order.{Order}
+use Rattle.session_words.specs.declared.cause.EndCause.{EndCause}
 use Rattle.session_words.specs.declared.plan.CarPlan.{CarPlan}
+use Rattle.session_words.specs.declared.word.Reply.{Reply}
+use Rattle.car_rules.specs.declared.stage.CarStage.{CarStage}
 use Rattle.car_rules.specs.Deadlines.{due_at}
-use Rattle.car_spec.specs.Codecs as codecs
+use Rattle.evcc_rows.specs.Leading.{Leads}
+use Rattle.evcc_rows.specs.declared.row.Moved.{Moved}
 use Rattle.car_spec.specs.Deciding.{ending_by, asking}
-use Rattle.car_spec.specs.Judging.{passed, gone_on, waiting, judged}
-use Rattle.car_spec.specs.States.{Agenda, Wording, Session, State, nothing}
-use Rattle.evcc_machine.specs.Counting.{IsCounted}
-use Rattle.evcc_machine.specs.declared.leading.Lead.{Lead}
-use Rattle.evcc_machine.specs.declared.leading.Lead.TheVariants.{Ends, Waits, Goes}
+use Rattle.car_spec.specs.Judging.{passed, gone_on, waiting}
+use Rattle.car_spec.specs.States.{Wording, Session, State, nothing}
 
-abbrev pub session_led : CarPlan → Lead → ℕ → Session → Session
-session_led plan (Ends cause) now session = passed session
-session_led plan (Waits stage) now session = waiting session stage (due_at now plan.pace)
-session_led plan (Goes stage order) now session = gone_on session stage now
+-- a session at a stage, or at none
+abbrev pub at_stage : Option CarStage → Session → Session
+at_stage stage session = record session { stage = stage }
 
-abbrev pub agenda_led : CarPlan → Lead → Bool → Agenda
-agenda_led plan (Ends cause) live = ending_by cause live
-agenda_led plan (Waits stage) live = nothing
-agenda_led plan (Goes stage order) live = record nothing { order = order; spoken = asking plan (Some stage) }
+-- its request is asked for the first time at a moment, or once more
+abbrev pub begun_at : ℕ → Session → Session
+begun_at now session = record session { moments = record session.moments { begun = now }; again = None }
 
--- a car whose word led there
-abbrev pub led : CarPlan → Lead → State → State
-led plan lead s = record s {
+abbrev pub again_at : Option ℕ → Session → Session
+again_at due session = record session { again = due }
+
+-- the word ends the car
+abbrev pub ended_by : EndCause → State → State
+ended_by cause s = record s { part = Wording; session = option_map passed s.session; agenda = ending_by cause s.live }
+
+-- the request of a stage is asked at once, behind an order if there is one
+abbrev pub gone_to : CarPlan → CarStage → Option Order → State → State
+gone_to plan to order s = record s {
   part = Wording;
-  session = option_map (session_led plan lead s.clock) s.session;
-  agenda = agenda_led plan lead s.live;
+  session = option_map (λ session. gone_on session to s.clock) s.session;
+  agenda = record nothing { order = order; spoken = asking plan (Some to) };
 }
 
--- this leads a session there, whatever else the car keeps
-abbrev pub IsLedBy : CarPlan → Session → (State → State) → Lead → Type 0
-IsLedBy plan session behind lead = (s : State) → behind s ≡ record s {
+-- the request of a stage is asked once more, the car's pace behind the reply
+abbrev pub waiting_in : CarPlan → CarStage → State → State
+waiting_in plan to s = record s {
   part = Wording;
-  session = Some (session_led plan lead s.clock session);
-  agenda = agenda_led plan lead s.live;
+  session = option_map (λ session. waiting session to (due_at s.clock plan.pace)) s.session;
+  agenda = nothing;
 }
 
--- a word does
-abbrev pub IsLed : CarPlan → Session → codecs.Judged → Lead → Type 0
-IsLed plan session word lead = IsLedBy plan session (λ s. judged plan s session word) lead
+-- where a reply leads from the stage of a session, if it has one
+abbrev pub LeadsFrom : CarPlan → Session → Option CarStage → Reply → Option Moved → Type 0
+LeadsFrom plan session None r moved = moved ≡ None
+LeadsFrom plan session (Some stage) r None = ⊥
+LeadsFrom plan session (Some stage) r (Some moved) = Leads plan stage (is_some session.moments.sent) r session.stop moved
 
--- the stage to which a word leads counts as many charging replies as it may
-abbrev pub IsCountedLead : Lead → Type 0
-IsCountedLead (Ends cause) = Unit {0}
-IsCountedLead (Waits stage) = IsCounted stage
-IsCountedLead (Goes stage order) = IsCounted stage
+abbrev pub LeadsIn : CarPlan → Option Session → Reply → Option Moved → Type 0
+LeadsIn plan None r moved = moved ≡ None
+LeadsIn plan (Some session) r moved = LeadsFrom plan session session.stage r moved

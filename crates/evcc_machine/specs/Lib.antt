@@ -1,5 +1,4 @@
 pub mod Views
-pub mod Counting
 pub mod Leading
 pub mod Resting
 pub mod Work

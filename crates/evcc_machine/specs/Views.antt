@@ -1,7 +1,9 @@
 -- Own: the machine's values as those of the definitions.
 use Rattle.std.specs.Prelude.{◌≡◌, ℕ, List, [], Option, Some, None}
 use Rattle.charge_world.specs.declared.offer.Dialect.{Dialect}
+use Rattle.std.specs.Option.{option_map}
 use Rattle.car_rules.specs.declared.stage.CarStage.{CarStage}
+use Rattle.evcc_rows.specs.Carrying.{stage_of}
 use Rattle.post_spec.specs.Steps as heard
 use Rattle.car_spec.specs.Codecs as codecs
 use Rattle.car_spec.specs.Judging.{Payload, dialect_of}
@@ -69,7 +71,7 @@ wanted_of wanted = record { dialect = wanted.dialect; bytes = wanted.payload.now
 -- what is kept of a session, with what of its stream was not read yet
 abbrev pub with_unread : List ℕ → Living → states.Session
 with_unread unread living = record {
-  stage = living.stage;
+  stage = option_map stage_of living.row;
   moments = living.moments;
   again = living.again;
   unread = unread;

@@ -130,8 +130,8 @@ impl Car {
 
     /// The stage of the session: the request whose reply is awaited, the identifier, the charging replies so far. None where no session
     /// lives, or where its negotiation hasn't matched.
-    pub fn stage(&self) -> Option<&CarStage>
-        ensures { option_map (λ stage. stage.now) result ≡ stage_in self.now.session }
+    pub fn stage(&self) -> Option<CarStage>
+        ensures { result ≡ stage_in self.now.session }
     {
         self.slot.stage()
     }

@@ -18,7 +18,6 @@ mod deciding;
 mod event;
 mod judging;
 pub mod law;
-mod leading;
 mod living;
 mod slot;
 

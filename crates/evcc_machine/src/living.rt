@@ -1,24 +1,25 @@
 //! What a car keeps of a session that lives, beside its stream.
 
 ghost use Rattle.std.specs.Prelude.{◌≡◌, false, [], Some};
+ghost use Rattle.std.specs.Option.{option_map};
 ghost use Rattle.car_rules.specs.Deadlines.{deadlines, hit as first_hit, least_moment};
 ghost use Rattle.car_spec.specs.Deciding as deciding;
 ghost use Rattle.car_spec.specs.Due as due;
-ghost use Rattle.car_spec.specs.Judging as judging;
 ghost use Rattle.car_spec.specs.States.{first_session};
 ghost use Rattle.car_spec.specs.Until.{or_never};
+ghost use Rattle.evcc_rows.specs.Carrying.{stage_of};
 ghost use Rattle.evcc_machine.specs.Views.{with_unread};
 
 use crate::agenda::{Agenda, Spoken, asking};
 use car_rules::{CarMoments, CarStage, hit, is_reached, next_due};
-use charge_world::Dialect;
+use evcc_rows::Row;
 use session_words::{CarPlan, EndCause};
 
 /// What is kept of a session that lives, beside its stream.
 #[derive(Drop)]
 pub(crate) struct Living {
-    /// None until a dialect is chosen.
-    pub(crate) stage: Option<CarStage>,
+    /// The request whose reply is awaited. None until a dialect is chosen.
+    pub(crate) row: Option<Row>,
     pub(crate) moments: CarMoments,
     /// When the request is due that is asked once more, if it ever is.
     pub(crate) again: Option<u64>,
@@ -49,7 +50,7 @@ impl Living {
         ensures { with_unread [] result ≡ first_session at }
     {
         Living {
-            stage: None,
+            row: None,
             moments: CarMoments {
                 came: at,
                 sent: None,
@@ -60,28 +61,28 @@ impl Living {
         }
     }
 
-    /// The dialect that was chosen, if one was.
-    pub(crate) fn dialect(&self) -> Option<Dialect>
-        ensures { result ≡ judging.dialect_of self.now.stage }
+    /// The stage of the session, once a dialect was chosen.
+    pub(crate) fn stage(&self) -> Option<CarStage>
+        ensures { result ≡ option_map stage_of self.now.row }
     {
-        match &self.stage {
-            Some(stage) => Some(stage.dialect),
+        match &self.row {
+            Some(row) => Some(row.stage()),
             None => None,
         }
     }
 
     /// The cause of the deadline that was reached, if one was.
     pub(crate) fn hit(&self, plan: &CarPlan, now: u64) -> Option<EndCause>
-        ensures { result ≡ first_hit (deadlines plan.now self.now.stage self.now.moments) now }
+        ensures { result ≡ first_hit (deadlines plan.now (option_map stage_of self.now.row) self.now.moments) now }
     {
-        hit(plan, &self.stage, &self.moments, now)
+        hit(plan, &self.stage(), &self.moments, now)
     }
 
     /// When the session is due; 2^64 - 1 is never.
     pub(crate) fn due(&self, plan: &CarPlan) -> u64
-        ensures { result ≡ least_moment (deadlines plan.now self.now.stage self.now.moments) }
+        ensures { result ≡ least_moment (deadlines plan.now (option_map stage_of self.now.row) self.now.moments) }
     {
-        next_due(plan, &self.stage, &self.moments)
+        next_due(plan, &self.stage(), &self.moments)
     }
 
     /// A request that is due is asked once more.
@@ -90,7 +91,7 @@ impl Living {
         ensures still { result.seeks ≡ false }
     {
         if is_due(self.again, now) {
-            Agenda::saying(None, asking(plan, &self.stage))
+            Agenda::saying(None, asking(plan, &self.stage()))
         } else {
             Agenda::nothing()
         }

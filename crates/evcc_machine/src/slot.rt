@@ -1,8 +1,8 @@
 //! The session of a car, in memory of its own.
 
-ghost use Rattle.std.specs.Prelude.{◌≡◌, ◌≤◌, List, ℕ, Option, Some, None, true, false, length, is_some, IfOk, IfSome};
+ghost use Rattle.std.specs.Prelude.{◌≡◌, ◌≤◌, Some, None, true, false, length, is_some, IfOk, IfSome};
 ghost use Rattle.std.specs.Option.{option_map};
-ghost use Rattle.v2gtp_frames.specs.Reading.{behind_front};
+ghost use Rattle.session_words.specs.Plans.{IsCarPlan};
 ghost use Rattle.car_rules.specs.Deadlines.{hit as first_hit, least_moment};
 ghost use Rattle.car_spec.specs.Acting as acting;
 ghost use Rattle.car_spec.specs.Deciding as deciding;
@@ -11,20 +11,20 @@ ghost use Rattle.car_spec.specs.Hearing as hearings;
 ghost use Rattle.car_spec.specs.Judging as judging;
 ghost use Rattle.car_spec.specs.States.{first_session};
 ghost use Rattle.car_spec.specs.Until.{or_never};
-ghost use Rattle.evcc_machine.specs.Counting.{IsCountedIn, IsCountedSo};
-ghost use Rattle.evcc_machine.specs.Leading.{session_led, IsCountedLead};
+ghost use Rattle.evcc_rows.specs.Carrying.{stage_of};
+ghost use Rattle.evcc_machine.specs.Leading.{at_stage, begun_at, again_at, LeadsIn};
 ghost use Rattle.evcc_machine.specs.Resting.{IsReadOut};
-ghost use Rattle.evcc_machine.specs.Views.{dialect_in, event_of, stage_in, unread_in, wanted_of, with_unread};
+ghost use Rattle.evcc_machine.specs.Views.{dialect_in, event_of, stage_in, wanted_of, with_unread};
 
 use crate::NoMemory;
 use crate::agenda::Agenda;
 use crate::event::{CarEvent, brought, stop_heard};
-use crate::leading::Lead;
 use crate::living::{Living, or_never};
-use car_rules::{CarStage, due_at};
+use car_rules::CarStage;
 use charge_world::Dialect;
+use evcc_rows::{Moved, Row};
 use heard_bytes::Unread;
-use session_words::{CarPlan, EndCause};
+use session_words::{CarPlan, EndCause, Reply};
 use std::alloc::Global;
 use std::marker::Model;
 use v2gtp_frames::whole_frame;
@@ -49,14 +49,11 @@ impl Model for SessionSlot {
     ghost use Rattle.std.specs.Prelude.{Option};
     ghost use Rattle.std.specs.Option.{option_map};
     ghost use Rattle.car_spec.specs.States.{Session};
-    ghost use Rattle.evcc_machine.specs.Counting.{IsCountedIn};
     ghost use Rattle.evcc_machine.specs.Views.{with_unread};
 
     ghost Value = { Option Session };
 
     ghost view = { λ s. option_map (with_unread s.unread) s.living };
-
-    ghost invariant = { λ s. IsCountedIn s.living };
 }
 
 impl SessionSlot {
@@ -70,20 +67,12 @@ impl SessionSlot {
         })
     }
 
-    /// What is kept of the session, if one lives.
-    pub(crate) fn living(&self) -> Option<&Living>
-        ensures value { option_map (λ living. with_unread (unread_in self.now) living.now) result ≡ self.now }
-        ensures counted { IfSome result (λ living. IsCountedSo living.now.stage) }
-    {
-        self.living.as_ref()
-    }
-
     /// The stage of the session, once a dialect was chosen.
-    pub(crate) fn stage(&self) -> Option<&CarStage>
-        ensures { option_map (λ stage. stage.now) result ≡ stage_in self.now }
+    pub(crate) fn stage(&self) -> Option<CarStage>
+        ensures { result ≡ stage_in self.now }
     {
         match &self.living {
-            Some(living) => living.stage.as_ref(),
+            Some(living) => living.stage(),
             None => None,
         }
     }
@@ -92,8 +81,8 @@ impl SessionSlot {
     pub(crate) fn dialect(&self) -> Option<Dialect>
         ensures { result ≡ dialect_in self.now }
     {
-        match &self.living {
-            Some(living) => living.dialect(),
+        match self.stage() {
+            Some(stage) => Some(stage.dialect),
             None => None,
         }
     }
@@ -183,10 +172,12 @@ impl SessionSlot {
         ensures value { option_map wanted_of result ≡ judging.payload_in self.now }
         ensures short { IfSome result (λ wanted. length wanted.payload.now ≤ 65536) }
     {
-        let living = self.living.as_ref()?;
+        if self.living.is_none() {
+            return None;
+        }
         match whole_frame(self.unread.bytes()) {
             Ok(Some(len)) => Some(Wanted {
-                dialect: living.dialect(),
+                dialect: self.dialect(),
                 payload: &self.unread.bytes()[8..8 + len],
             }),
             _ => None,
@@ -244,36 +235,58 @@ impl SessionSlot {
         }
     }
 
-    /// The session behind the word at the front, which led there.
-    pub(crate) fn follow(&mut self, plan: &CarPlan, lead: Lead, now: u64)
-        requires { IsCountedLead lead }
-        ensures { self.new ≡ option_map (session_led plan.now lead now) self.old }
+    /// The reply at the front uses up the row that awaits one, if there is one.
+    pub(crate) fn step(&mut self, plan: &CarPlan, reply: &Reply) -> Option<Moved>
+        requires { IsCarPlan plan.now }
+        ensures rest { self.new ≡ option_map (at_stage None) self.old }
+        ensures led { LeadsIn plan.now self.old reply.now result }
+    {
+        match &mut self.living {
+            Some(living) => match living.row.take() {
+                Some(row) => {
+                    Some(row.step(reply, living.moments.sent.is_some(), living.stop, plan))
+                }
+                None => None,
+            },
+            None => None,
+        }
+    }
+
+    /// This row awaits a reply.
+    pub(crate) fn put(&mut self, row: Row)
+        ensures { self.new ≡ option_map (at_stage (Some (stage_of row))) self.old }
+    {
+        if let Some(living) = &mut self.living {
+            living.row = Some(row);
+        }
+    }
+
+    /// The word at the front was read.
+    pub(crate) fn pass(&mut self)
+        ensures { self.new ≡ option_map judging.passed self.old }
     {
         self.unread.pass();
         if let Some(living) = &mut self.living {
-            follow(living, plan, lead, now);
+            living.moments.sent = None;
         }
     }
-}
 
-/// What is kept of a session behind a word, which led there.
-fn follow(living: &mut Living, plan: &CarPlan, lead: Lead, now: u64)
-    requires old { IsCountedSo living.old.stage }
-    requires lead { IsCountedLead lead }
-    ensures counted { IsCountedSo living.new.stage }
-    ensures value { (unread : List ℕ) → with_unread (behind_front unread) living.new ≡ session_led plan.now lead now (with_unread unread living.old) }
-{
-    living.moments.sent = None;
-    match lead {
-        Lead::Ends(_) => {}
-        Lead::Waits(stage) => {
-            living.stage = Some(stage);
-            living.again = due_at(now, u64::from(plan.pace));
-        }
-        Lead::Goes { stage, order: _ } => {
-            living.stage = Some(stage);
+    /// The request of the session's row is asked for the first time at this moment.
+    pub(crate) fn begin(&mut self, now: u64)
+        ensures { self.new ≡ option_map (begun_at now) self.old }
+    {
+        if let Some(living) = &mut self.living {
             living.moments.begun = now;
             living.again = None;
+        }
+    }
+
+    /// The request of the session's row is asked once more at this moment, if ever.
+    pub(crate) fn wait(&mut self, due: Option<u64>)
+        ensures { self.new ≡ option_map (again_at due) self.old }
+    {
+        if let Some(living) = &mut self.living {
+            living.again = due;
         }
     }
 }

@@ -1,4 +1,0 @@
-use Rattle.evcc_setup.proofs.rows.Asking.step.Goals as goal
-
-pub returns-in-None : goal.returns-in-None
-returns-in-None c = c.onward.ensures c.args.stop
