@@ -1,1 +1,2 @@
+pub use Rattle.opens_have_reasons.specs.Reasons
 pub mod Applied

@@ -8,6 +8,7 @@
 ghost use Rattle.post_spec.specs.Codecs.{codecs};
 ghost use Rattle.applied_causes.specs.Applied.{RunsApplyCauses, RunsApplyWords};
 
+pub use opens_have_reasons;
 use post_spec::Coded;
 
 /// In every run, what ends a session at a place, and is no word, is a cause of what was heard and done up to there. What was heard may be

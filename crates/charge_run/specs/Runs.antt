@@ -15,7 +15,7 @@ use Rattle.message_trees.specs.Texts.{IsPrinted, IsRefusedIn, IsScanned, IsUnsca
 use Rattle.command_status.specs.declared.status.Status.{Status}
 use Rattle.command_status.specs.declared.status.Status.TheVariants as status
 use Rattle.command_status.specs.FaultLines.{Tells, input_line}
-use Rattle.command_words.specs.Command.{IsBasic, IsCar, IsMigrate, IsOffer, IsPick, IsReplay, IsSchedule, IsServices, IsStation}
+use Rattle.command_words.specs.Command.{IsAudit, IsBasic, IsCar, IsMigrate, IsOffer, IsPick, IsReplay, IsSchedule, IsServices, IsStation}
 use Rattle.payload_commands.specs.Picking.{WantsNothing as SpellsNothing}
 use Rattle.hex_payloads.specs.HexText.{hex_fault, IsHexOf}
 use Rattle.hex_payloads.specs.declared.hex_text.HexFault.{HexFault}
@@ -40,6 +40,9 @@ IsSomeCar words = (plan : List ℕ) × IsCar words plan
 
 abbrev pub IsSomeReplay : List (List ℕ) → Type 0
 IsSomeReplay words = (plan : List ℕ) × (trace : List ℕ) × IsReplay words plan trace
+
+abbrev pub IsSomeAudit : List (List ℕ) → Type 0
+IsSomeAudit words = (plan : List ℕ) × (trace : List ℕ) × IsAudit words plan trace
 
 abbrev pub IsSomeBasic : List (List ℕ) → Type 0
 IsSomeBasic words = (script : List ℕ) × IsBasic words script
@@ -69,7 +72,7 @@ UsesWire words = IsSomeStation words ⊎ IsSomeCar words
 
 -- the commands that read a plan, a calendar, a need or a catalogue
 abbrev pub ReadsPlan : List (List ℕ) → Type 0
-ReadsPlan words = UsesWire words ⊎ IsSomeReplay words ⊎ IsSomeOffer words ⊎ IsSomeSchedule words ⊎ IsSomeServices words
+ReadsPlan words = UsesWire words ⊎ IsSomeReplay words ⊎ IsSomeOffer words ⊎ IsSomeSchedule words ⊎ IsSomeServices words ⊎ IsSomeAudit words
 
 -- the commands that write a trace
 abbrev pub WritesTrace : List (List ℕ) → Type 0

@@ -4,6 +4,7 @@
 #![tactic(auto)]
 
 mod answer;
+mod auditing;
 mod decode;
 mod driving;
 mod encode;

@@ -3,7 +3,7 @@
 ghost use Rattle.std.specs.Prelude.{◌≡◌, ◌<◌, ◌⊎◌, ℕ, List, [], ◌∷◌};
 ghost use Rattle.command_status.specs.Completeness.{Completes};
 ghost use Rattle.replay_command.specs.Served.{IsUnbegun};
-ghost use Rattle.replay_command.specs.Files.{files_told};
+ghost use Rattle.planned_traces.specs.Files.{files_told};
 ghost use Rattle.replay_command.specs.Replays.{ReplayLeaves};
 ghost use Rattle.command_status.specs.Told.{sink_told, TellsAlways};
 ghost use Rattle.charge_run.specs.Runs.{site_codecs};

@@ -3,13 +3,15 @@
 ghost use Rattle.std.specs.Prelude.{◌≡◌, ◌<◌, ◌⊎◌, ℕ, List, [], ◌∷◌};
 ghost use Rattle.message_dialects.specs.declared.dialect.MessageDialect.{MessageDialect as OfDialect};
 ghost use Rattle.message_trees.specs.Texts.{IsUnscanned};
-ghost use Rattle.command_words.specs.Command.{IsNoCommand, IsStation, IsCar, IsReplay, IsDecode, IsEncode, IsBasic, IsMigrate, IsOffer, IsSchedule, IsServices, IsPick};
+ghost use Rattle.command_words.specs.Command.{IsNoCommand, IsStation, IsCar, IsReplay, IsAudit, IsDecode, IsEncode, IsBasic, IsMigrate, IsOffer, IsSchedule, IsServices, IsPick};
 ghost use Rattle.command_status.specs.Completeness.{NoneRose};
 ghost use Rattle.command_status.specs.FaultLines.{Tells, words_line};
 ghost use Rattle.command_status.specs.Told.{file_told, sink_told, TellsAlways};
 ghost use Rattle.replay_command.specs.Served.{wire_told, IsUnbegun};
-ghost use Rattle.replay_command.specs.Files.{files_told};
+ghost use Rattle.planned_traces.specs.Files.{files_told};
 ghost use Rattle.replay_command.specs.Replays.{ReplayLeaves};
+ghost use Rattle.audit_command.specs.Leaving.{AuditLeaves};
+ghost use Rattle.told_codecs.specs.Codecs.{charge_codecs};
 ghost use Rattle.charge_run.specs.Cars.{CarLeaves};
 ghost use Rattle.file_commands.specs.Basics.{BasicLeaves};
 ghost use Rattle.migrate_command.specs.Leaving.{MigrateLeaves};
@@ -18,10 +20,11 @@ ghost use Rattle.payload_commands.specs.Scheduling.{ScheduleLeaves};
 ghost use Rattle.payload_commands.specs.Detailing.{ServicesLeave};
 ghost use Rattle.payload_commands.specs.Picking.{PickLeaves};
 ghost use Rattle.migrate_command.specs.Lines.{sink_change};
-ghost use Rattle.charge_run.specs.Runs.{site_codecs, car_codecs, UsesWire, IsSomeReplay, IsSomeBasic, IsSomeMigrate, IsSomeSchedule, IsSomePick, WantsNothing, ReadsFiles, ReadsPlan, WritesTrace, Decodes, IsDecodeFault, Encodes};
+ghost use Rattle.charge_run.specs.Runs.{site_codecs, car_codecs, UsesWire, IsSomeReplay, IsSomeAudit, IsSomeBasic, IsSomeMigrate, IsSomeSchedule, IsSomePick, WantsNothing, ReadsFiles, ReadsPlan, WritesTrace, Decodes, IsDecodeFault, Encodes};
 ghost use Rattle.charge_run.specs.Stations.{StationLeaves};
 ghost use Rattle.charge_run.specs.Completing.{IsUnfailed};
 
+use crate::auditing::audit_trace;
 use crate::decode::decode;
 use crate::driving::drive;
 use crate::encode::encode;
@@ -45,6 +48,8 @@ use std::alloc::Global;
 /// - `replay PLAN TRACE` runs the posts of the plan in one file over the hearings of the trace in another, where calls fail by the trace's
 ///   marks, writes the whole trace anew, and prints `lines N ended over`, with `lost` or `turns` in place of `over`: how many lines that
 ///   trace has, and how the run ended.
+/// - `audit PLAN TRACE` judges the trace in one file by itself, whoever wrote it, for the plan in another, and prints `audit ok lines N`, how many lines it
+///   has, or `audit no line N check C`, the first of ten checks that fails, and at which line.
 /// - `decode DIALECT HEX` prints the tree text of the message that a payload spells. DIALECT is `app` for the negotiation, `iso` for
 ///   ISO 15118-2 or `din` for DIN SPEC 70121.
 /// - `encode DIALECT TEXT` prints the payload that is written for the message whose tree text this is, in hexadecimal digits.
@@ -76,6 +81,10 @@ use std::alloc::Global;
 /// `replay`: `Done` for each of the three ends, and the trace is the text of a run of the site. Before that come `NoMemory`, `SourceFault`
 /// where a file can't be read, `Plan` where the first is no plan, and `Input` where the second is no trace at its posts. The wire stays as it
 /// was.
+///
+/// `audit`: `Done` where no check fails: then the contactors of that trace were closed only as mandated and opened by what ended a session, and its watts
+/// stayed within the limit (`IsSafe` and `IsWithin` of `told_pasts`). `AuditNo` where one fails. Before that comes what comes for `replay`. The trace
+/// and the wire stay as they were.
 ///
 /// `decode`: `Input` where the text spells no bytes or the payload no message. `encode`: `Input` where no payload is written for the
 /// text. Neither uses a file, the trace or the wire.
@@ -132,6 +141,12 @@ pub fn run<F: Source, K: Sink, J: Sink, W: Wire>(
         (sink_told (J.taken trace.old) (J.faults trace.old)) (sink_told (J.taken trace.new) (J.faults trace.new))
         (sink_told (K.taken out.old) (K.faults out.old)) (sink_told (K.taken out.new) (K.faults out.new)) }
 
+    // `audit`: the line tells the first check that fails in the trace of the file, or that none does, or the files' fault is told.
+    ensures audit { (plan : List ℕ) (recorded : List ℕ) → IsAudit words.now plan recorded
+        → AuditLeaves charge_codecs (TellsAlways F.left) result
+        (files_told (F.holds files.old plan) (F.holds files.old recorded) (F.faults files.old) (F.faults files.new))
+        (sink_told (K.taken out.old) (K.faults out.old)) (sink_told (K.taken out.new) (K.faults out.new)) }
+
     // `basic`: the lines are those of the orders of a run over the script in the file, or its fault is told.
     ensures basic { (name : List ℕ) → IsBasic words.now name
         → BasicLeaves result (file_told (F.holds files.old name) (F.left files.new) (F.faults files.old) (F.faults files.new))
@@ -162,7 +177,7 @@ pub fn run<F: Source, K: Sink, J: Sink, W: Wire>(
     ensures pick { (want : List ℕ) (payload : List ℕ) → IsPick words.now want payload
         → PickLeaves result want payload (sink_told (K.taken out.old) (K.faults out.old)) (sink_told (K.taken out.new) (K.faults out.new)) }
 
-    // Only the first three, `offer`, `schedule` and `services` read a plan or a file of keys, and only they, `basic` and `migrate` read files.
+    // Only the first four, `offer`, `schedule` and `services` read a plan or a file of keys, and only they, `basic` and `migrate` read files.
     ensures plan { result ≡ Status.Plan → ReadsPlan words.now }
     ensures source { result ≡ Status.SourceFault → ReadsFiles words.now }
 
@@ -179,6 +194,7 @@ pub fn run<F: Source, K: Sink, J: Sink, W: Wire>(
         → ((dialect : OfDialect) × (hex : List ℕ) × (place : ℕ) × IsDecode words.now dialect hex × IsDecodeFault dialect hex place)
         ⊎ ((dialect : OfDialect) × (text : List ℕ) × (place : ℕ) × IsEncode words.now dialect text × IsUnscanned dialect text place)
         ⊎ IsSomeReplay words.now
+        ⊎ IsSomeAudit words.now
         ⊎ IsSomeBasic words.now
         ⊎ IsSomeMigrate words.now
         ⊎ IsSomeSchedule words.now
@@ -208,7 +224,7 @@ pub fn run<F: Source, K: Sink, J: Sink, W: Wire>(
     // comes by its commands alone.
     ensures complete { NoneRose ((F.faults files.old, F.faults files.new) ∷ (K.faults out.old, K.faults out.new) ∷ (J.faults trace.old, J.faults trace.new) ∷ (W.faults wire.old, W.faults wire.new) ∷ []) → IsUnfailed result }
     ensures turns { result ≡ Status.TurnsSpent → UsesWire words.now }
-    ensures no_audit { result ≡ Status.AuditNo → ⊥ }
+    ensures audit_no { result ≡ Status.AuditNo → IsSomeAudit words.now }
     ensures no_profile { (result ≡ Status.Unreached) ⊎ (result ≡ Status.NoSchedule) → IsSomeSchedule words.now }
     ensures no_set { result ≡ Status.NoSet → IsSomePick words.now }
 {
@@ -221,6 +237,12 @@ pub fn run<F: Source, K: Sink, J: Sink, W: Wire>(
                 trace: recorded,
             },
         ) => { replay_trace(alloc, plan, recorded, files, out, trace) }
+        Ok(
+            Command::Audit {
+                plan,
+                trace: recorded,
+            },
+        ) => { audit_trace(alloc, plan, recorded, files, out) }
         Ok(Command::Decode { dialect, hex }) => decode(alloc, dialect, hex, out),
         Ok(Command::Encode { dialect, text }) => encode(alloc, dialect, text, out),
         Ok(Command::Basic { script }) => basic(alloc, script, files, out),

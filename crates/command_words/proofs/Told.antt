@@ -15,7 +15,7 @@ use Rattle.clap.specs.declared.parser.matches.SubCommand.{SubCommand}
 use Rattle.clap.specs.declared.parser.matches.ArgMatches.TheViews.{out-SubCommand}
 use Rattle.message_dialects.specs.declared.dialect.MessageDialect.{MessageDialect}
 use Rattle.message_dialects.specs.declared.dialect.MessageDialect.TheVariants.{App, Iso, Din}
-use Rattle.command_words.specs.Command.{Asked, Asks, HasWordsFault, IsCommand, IsNoCommand, asked_of, basic, car, decode, dialect_named, dialect_word, day, encode, is_plain, IsWithin, migrate, offer, pick, replay, schedule, services, shorts, station, words_of}
+use Rattle.command_words.specs.Command.{Asked, Asks, HasWordsFault, IsCommand, IsNoCommand, asked_of, audit, basic, car, decode, dialect_named, dialect_word, day, encode, is_plain, IsWithin, migrate, offer, pick, replay, schedule, services, shorts, station, words_of}
 use Rattle.command_words.specs.Grammar.{Form, IsMatched, IsTaken, IsUnmatched, count_of, forms, given_rows, is_number, named, number_named, on_dialect, told, told_of, with_number, with_one, with_two}
 use Rattle.command_words.specs.declared.reading.Command.{Command}
 use Rattle.command_words.specs.declared.reading.WordsFault.TheVariants.{NoCommand}
@@ -104,6 +104,7 @@ pub read : (asked : Asked) → IsWithin asked → IsRead asked
 read (station plan) within = record { name = codes "station"; values = plan ∷ []; words_are = refl; taken = refl; told_is = refl }
 read (car plan) within = record { name = codes "car"; values = plan ∷ []; words_are = refl; taken = refl; told_is = refl }
 read (replay plan trace) within = record { name = codes "replay"; values = plan ∷ trace ∷ []; words_are = refl; taken = refl; told_is = refl }
+read (audit plan trace) within = record { name = codes "audit"; values = plan ∷ trace ∷ []; words_are = refl; taken = refl; told_is = refl }
 read (decode App hex) within = record { name = codes "decode"; values = codes "app" ∷ hex ∷ []; words_are = refl; taken = refl; told_is = refl }
 read (decode Iso hex) within = record { name = codes "decode"; values = codes "iso" ∷ hex ∷ []; words_are = refl; taken = refl; told_is = refl }
 read (decode Din hex) within = record { name = codes "decode"; values = codes "din" ∷ hex ∷ []; words_are = refl; taken = refl; told_is = refl }
@@ -210,16 +211,19 @@ all_make = (
     (
       makes_two _ _ (λ a b. (refl, tt)),
       (
-        makes_dialect _ _ (λ d b. (refl, tt)),
+        makes_two _ _ (λ a b. (refl, tt)),
         (
           makes_dialect _ _ (λ d b. (refl, tt)),
           (
-            makes_one _ _ (λ a. (refl, tt)),
+            makes_dialect _ _ (λ d b. (refl, tt)),
             (
               makes_one _ _ (λ a. (refl, tt)),
               (
-                makes_number _ _ _ (λ a n less. (refl, less)),
-                (makes_two _ _ (λ a b. (refl, tt)), (makes_number _ _ _ (λ a n less. (refl, less)), (makes_two _ _ (λ a b. (refl, tt)), tt))),
+                makes_one _ _ (λ a. (refl, tt)),
+                (
+                  makes_number _ _ _ (λ a n less. (refl, less)),
+                  (makes_two _ _ (λ a b. (refl, tt)), (makes_number _ _ _ (λ a n less. (refl, less)), (makes_two _ _ (λ a b. (refl, tt)), tt))),
+                ),
               ),
             ),
           ),

@@ -5,7 +5,7 @@ use Rattle.std.specs.Str.{bytes_eq}
 use Rattle.message_dialects.specs.declared.dialect.MessageDialect.{MessageDialect}
 use Rattle.message_dialects.specs.declared.dialect.MessageDialect.TheVariants.{App, Iso, Din}
 use Rattle.command_words.specs.declared.reading.Command.{Command}
-use Rattle.command_words.specs.declared.reading.Command.TheVariants.{Station, Car, Replay, Decode, Encode, Basic, Migrate, Offer, Schedule, Services, Pick}
+use Rattle.command_words.specs.declared.reading.Command.TheVariants.{Station, Car, Replay, Audit, Decode, Encode, Basic, Migrate, Offer, Schedule, Services, Pick}
 use Rattle.command_words.specs.declared.reading.WordsFault.{WordsFault}
 use Rattle.command_words.specs.declared.reading.WordsFault.TheVariants.{NoCommand, Memory}
 
@@ -29,7 +29,7 @@ dialect_named word =
     else None
 
 -- what may be asked for: to serve the posts of the plan in a file; to drive a car by the plan in a file; to run the posts of the plan in a file
--- over the hearings of the trace in another; the tree text of a payload of a dialect; the payload of a tree text of a dialect; the orders
+-- over the hearings of the trace in another; to judge the trace in one file for the plan in another; the tree text of a payload of a dialect; the payload of a tree text of a dialect; the orders
 -- for the script in a file; to carry the trace of an earlier format in a file over; what is offered for the day from a moment on by the calendar
 -- in a file; the charging profile for the need in a file within the schedules of a payload; the payload of the reply for a service of the catalogue
 -- in a file; and which set of the parameters of a payload is picked by what is wanted
@@ -37,6 +37,7 @@ pub data Asked : Type 0 where
   station : (plan : List ℕ) → Asked
   car : (plan : List ℕ) → Asked
   replay : (plan trace : List ℕ) → Asked
+  audit : (plan trace : List ℕ) → Asked
   decode : (dialect : MessageDialect) (hex : List ℕ) → Asked
   encode : (dialect : MessageDialect) (text : List ℕ) → Asked
   basic : (script : List ℕ) → Asked
@@ -51,6 +52,7 @@ abbrev pub words_of : Asked → List (List ℕ)
 words_of (station plan) = codes "station" ∷ plan ∷ []
 words_of (car plan) = codes "car" ∷ plan ∷ []
 words_of (replay plan trace) = codes "replay" ∷ plan ∷ trace ∷ []
+words_of (audit plan trace) = codes "audit" ∷ plan ∷ trace ∷ []
 words_of (decode dialect hex) = codes "decode" ∷ dialect_word dialect ∷ hex ∷ []
 words_of (encode dialect text) = codes "encode" ∷ dialect_word dialect ∷ text ∷ []
 words_of (basic script) = codes "basic" ∷ script ∷ []
@@ -89,6 +91,9 @@ IsCar words plan = Asks words (car plan)
 abbrev pub IsReplay : List (List ℕ) → List ℕ → List ℕ → Type 0
 IsReplay words plan trace = Asks words (replay plan trace)
 
+abbrev pub IsAudit : List (List ℕ) → List ℕ → List ℕ → Type 0
+IsAudit words plan trace = Asks words (audit plan trace)
+
 abbrev pub IsDecode : List (List ℕ) → MessageDialect → List ℕ → Type 0
 IsDecode words dialect hex = Asks words (decode dialect hex)
 
@@ -120,6 +125,7 @@ abbrev pub asked_of : Command → Asked
 asked_of (Station plan) = station plan.now
 asked_of (Car plan) = car plan.now
 asked_of (Replay plan trace) = replay plan.now trace.now
+asked_of (Audit plan trace) = audit plan.now trace.now
 asked_of (Decode dialect hex) = decode dialect hex.now
 asked_of (Encode dialect text) = encode dialect text.now
 asked_of (Basic script) = basic script.now

@@ -7,7 +7,7 @@ use Rattle.clap.specs.Simple.{App, Shape, new_rule, new_shape}
 use Rattle.clap.specs.declared.builder.value_parser.Reading.TheVariants.{AsWritten}
 use Rattle.clap.specs.declared.parser.matches.ValueSource.TheVariants.{CommandLine}
 use Rattle.message_dialects.specs.declared.dialect.MessageDialect.{MessageDialect}
-use Rattle.command_words.specs.Command.{Asked, station, car, replay, decode, encode, basic, migrate, offer, schedule, services, pick, day, shorts, dialect_named}
+use Rattle.command_words.specs.Command.{Asked, station, car, replay, audit, decode, encode, basic, migrate, offer, schedule, services, pick, day, shorts, dialect_named}
 use Rattle.command_words.specs.declared.forms.Values.{Values}
 use Rattle.command_words.specs.declared.forms.Values.TheVariants.{One, Two}
 
@@ -86,6 +86,7 @@ forms =
     with_one (codes "station") (λ plan. station plan)
     ∷ with_one (codes "car") (λ plan. car plan)
     ∷ with_two (codes "replay") (λ plan trace. replay plan trace)
+    ∷ with_two (codes "audit") (λ plan trace. audit plan trace)
     ∷ on_dialect (codes "decode") (λ dialect hex. decode dialect hex)
     ∷ on_dialect (codes "encode") (λ dialect text. encode dialect text)
     ∷ with_one (codes "basic") (λ script. basic script)

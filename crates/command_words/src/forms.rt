@@ -35,10 +35,11 @@ macro_rules! with_two {
 }
 
 /// All commands.
-pub(crate) const FORMS: [Form; 11] = [
+pub(crate) const FORMS: [Form; 12] = [
     with_one!("station"),
     with_one!("car"),
     with_two!("replay"),
+    with_two!("audit"),
     with_two!("decode"),
     with_two!("encode"),
     with_one!("basic"),

@@ -35,6 +35,11 @@ pub enum Command<'a> {
         plan: &'a str,
         trace: &'a str,
     },
+    /// Judges the trace in one file, whoever wrote it, for the plan in another.
+    Audit {
+        plan: &'a str,
+        trace: &'a str,
+    },
     /// Prints the text of a payload of a dialect.
     Decode {
         dialect: MessageDialect,
@@ -116,6 +121,7 @@ fn command_named<'a>(name: &str, values: &ArgMatches<'a>) -> Option<Command<'a>>
         "station" => first(values).map(|plan| Command::Station { plan }),
         "car" => first(values).map(|plan| Command::Car { plan }),
         "replay" => both(values).map(|(plan, trace)| Command::Replay { plan, trace }),
+        "audit" => both(values).map(|(plan, trace)| Command::Audit { plan, trace }),
         "decode" => on_dialect(values).map(|(dialect, hex)| Command::Decode { dialect, hex }),
         "encode" => on_dialect(values).map(|(dialect, text)| Command::Encode { dialect, text }),
         "basic" => first(values).map(|script| Command::Basic { script }),

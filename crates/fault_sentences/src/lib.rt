@@ -2,9 +2,10 @@
 //!
 //! They decide nothing. A file that is read again for them may have changed meanwhile.
 //!
-//! Proved: what words that are no command ask for (`Asked::by`); of the sentences only that nothing goes wrong in making them.
+//! Proved: of the sentences only that nothing goes wrong in making them.
 #![tactic(auto)]
 
+mod audit;
 mod input;
 mod plan;
 mod script;
@@ -13,9 +14,11 @@ mod trace;
 mod usage;
 mod value;
 
+pub use audit::{FailedCheck, failed_check_in, say_failed_check};
+pub use command_words::Asked;
 pub use input::{DecodePlace, EncodePlace, place_in};
 pub use plan::say_plan;
 pub use script::say_script;
 pub use sockets::say_trouble;
 pub use trace::{Line, is_of_a_car, line_in};
-pub use usage::{Asked, say_help, say_misused, say_version};
+pub use usage::{say_help, say_misused, say_version};

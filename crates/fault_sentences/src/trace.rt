@@ -14,6 +14,8 @@ const LINE_FEED: u8 = 10;
 struct Reading {
     line: Line,
     number: u64,
+    /// The moment of the last thing heard in the lines before.
+    heard: Option<u64>,
 }
 
 impl Reading {
@@ -21,6 +23,7 @@ impl Reading {
         Reading {
             line: ArrayVec::new(),
             number: 1,
+            heard: None,
         }
     }
 
@@ -34,6 +37,7 @@ impl Reading {
     }
 
     fn next_line(&mut self) {
+        self.heard = heard_at(self.line.as_slice()).or(self.heard);
         self.line.clear();
         self.number = self.number.saturating_add(1);
     }
@@ -57,8 +61,8 @@ impl Wanted {
     }
 }
 
-/// The first bytes of the line that is wanted of a file.
-fn find_line<F: Source>(files: &mut F, name: &str, wanted: Wanted) -> Option<Line> {
+/// What was read of a file up to the line that is wanted.
+fn find_line<F: Source>(files: &mut F, name: &str, wanted: Wanted) -> Option<Reading> {
     files.begin(name).ok()?;
     let mut reading = Reading::new();
     let mut room = [0u8; 4096];
@@ -68,10 +72,14 @@ fn find_line<F: Source>(files: &mut F, name: &str, wanted: Wanted) -> Option<Lin
             break;
         }
         if find_in(&mut reading, &room[..count], wanted) {
-            return Some(reading.line);
+            return Some(reading);
         }
     }
-    wanted.is(&reading).then_some(reading.line)
+    if wanted.is(&reading) {
+        Some(reading)
+    } else {
+        None
+    }
 }
 
 /// Reads these bytes, and no further once the line that is wanted has ended.
@@ -89,25 +97,59 @@ fn find_in(reading: &mut Reading, bytes: &[u8], wanted: Wanted) -> bool {
 
 /// The first bytes of the line with this number, from 1, of the file of that name.
 pub fn line_in<F: Source>(files: &mut F, name: &str, number: u64) -> Option<Line> {
-    find_line(files, name, Wanted::Number(number))
+    Some(find_line(files, name, Wanted::Number(number))?.line)
+}
+
+/// The same, and the moment of the last thing that was heard before it.
+pub(crate) fn numbered_line<F: Source>(
+    files: &mut F,
+    name: &str,
+    number: u64,
+) -> Option<(Line, Option<u64>)> {
+    let reading = find_line(files, name, Wanted::Number(number))?;
+    Some((reading.line, reading.heard))
 }
 
 /// Whether the trace in a file is a car's: what it sends first is a request for negotiation.
 pub fn is_of_a_car<F: Source>(files: &mut F, name: &str) -> bool {
     match find_line(files, name, Wanted::Sent) {
-        Some(line) => sent_in(line.as_slice()).is_some_and(is_request),
+        Some(reading) => sent_in(reading.line.as_slice()).is_some_and(is_request),
         None => false,
     }
 }
 
-/// The bytes, in hexadecimal digits, of a line that tells of a send: `TURN sent POST BYTES`, in format 1 without the turn.
-fn sent_in(line: &[u8]) -> Option<&str> {
+/// What stands behind a word in a line, which is its first or has a space before it.
+fn behind<'a>(line: &'a [u8], word: &str) -> Option<&'a str> {
     let text = str::from_utf8(line).ok()?;
-    let (front, behind) = text.split_once("sent ")?;
+    let (front, behind) = text.split_once(word)?;
     if !front.is_empty() && !front.ends_with(' ') {
         return None;
     }
-    Some(behind.split_once(' ')?.1)
+    Some(behind)
+}
+
+/// The number that a text begins with.
+fn first_number(text: &str) -> Option<u64> {
+    text.split(' ').next()?.parse().ok()
+}
+
+/// The bytes, in hexadecimal digits, of a line that tells of a send: `TURN sent POST BYTES`, in format 1 without the turn.
+fn sent_in(line: &[u8]) -> Option<&str> {
+    Some(behind(line, "sent ")?.split_once(' ')?.1)
+}
+
+/// When something was heard, in milliseconds, by a line that tells of that: `TURN heard MOMENT ..`, in format 1 without the turn.
+pub(crate) fn heard_at(line: &[u8]) -> Option<u64> {
+    first_number(behind(line, "heard ")?)
+}
+
+/// The post that a line is about that tells of an act: `TURN drove POST ..` and likewise, in format 1 without the turn.
+pub(crate) fn post_in(line: &[u8]) -> Option<u64> {
+    let rest = behind(line, "drove ")
+        .or(behind(line, "sent "))
+        .or(behind(line, "answered "))
+        .or(behind(line, "ended "))?;
+    first_number(rest)
 }
 
 /// Whether a frame, in hexadecimal digits, holds a request for negotiation: behind eight bytes a payload whose first element is the first of two.

@@ -1,8 +1,5 @@
 //! The commands, and what is wrong with words that are none.
 
-ghost use Rattle.std.specs.Prelude.{◌≡◌};
-ghost use Rattle.fault_sentences.specs.Asked.{asked_by, asked_of};
-
 use command_words::WordList;
 use std::{fmt, io};
 
@@ -14,7 +11,7 @@ struct Usage {
     example: &'static str,
 }
 
-const COMMANDS: [Usage; 11] = [
+const COMMANDS: [Usage; 12] = [
     Usage {
         name: "station",
         values: "PLAN",
@@ -32,6 +29,12 @@ const COMMANDS: [Usage; 11] = [
         values: "PLAN TRACE",
         does: "runs a station over what its trace in the file TRACE heard, and writes v2g.trace anew",
         example: "v2g_charge replay station.toml run.trace",
+    },
+    Usage {
+        name: "audit",
+        values: "PLAN TRACE",
+        does: "judges the trace in the file TRACE, whoever wrote it, for the plan in the file PLAN",
+        example: "v2g_charge audit station.toml run.trace",
     },
     Usage {
         name: "decode",
@@ -91,42 +94,6 @@ fn commands() -> &'static [Usage] {
 impl fmt::Display for Usage {
     fn fmt<W: fmt::Write>(&self, f: &mut fmt::Formatter<W>) -> fmt::Result {
         write!(f, "v2g_charge {} {}", self.name, self.values)
-    }
-}
-
-/// What words that are no command ask for.
-#[derive(Clone, Copy)]
-pub enum Asked {
-    Help,
-    Version,
-    /// Nothing that there is.
-    Mistaken,
-}
-
-impl Asked {
-    /// What these words ask for, which are no command.
-    pub fn by(words: &WordList) -> Asked
-        ensures { result ≡ asked_by words.now }
-    {
-        match words.get(0) {
-            Some(word) => asked_of(word),
-            None => Asked::Mistaken,
-        }
-    }
-}
-
-/// What a first word asks for.
-fn asked_of(word: &str) -> Asked
-    ensures { result ≡ asked_of word.now }
-{
-    match word {
-        "--help" => Asked::Help,
-        "-h" => Asked::Help,
-        "help" => Asked::Help,
-        "--version" => Asked::Version,
-        "-V" => Asked::Version,
-        "version" => Asked::Version,
-        _ => Asked::Mistaken,
     }
 }
 

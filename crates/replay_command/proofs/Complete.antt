@@ -6,7 +6,7 @@ use Rattle.command_status.specs.Completeness.{Completes}
 use Rattle.command_status.proofs.Completeness.{neither}
 use Rattle.command_status.specs.Told.{SinkTold}
 use Rattle.post_spec.specs.Codecs.{Codecs}
-use Rattle.replay_command.specs.Files.{FilesTold}
+use Rattle.planned_traces.specs.Files.{FilesTold}
 use Rattle.replay_command.specs.Replays.{ReplayLeaves}
 
 pub complete : (c : Codecs) (tells : Type 0) (s : Status) (files : FilesTold) (trace_before trace out_before out : SinkTold) → ReplayLeaves c tells s files trace_before trace out_before out

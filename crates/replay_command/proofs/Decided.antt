@@ -1,19 +1,13 @@
 -- What the texts of the files decide.
-use Rattle.std.proofs.Common.{◌≡◌, ◌⊎◌, inl, inr, ◌↔◌, ℕ, ◌<◌, List, length, Option, Some, None, Result, Ok, refl, sym, ap, ◌∙◌, subst, arith}
-use Rattle.std.proofs.lemmas.Slice.Zip.{AllZip-long}
-use Rattle.std.specs.List.{AllZip}
+use Rattle.std.proofs.Common.{◌≡◌, ◌⊎◌, inl, inr, ◌↔◌, ℕ, ◌<◌, List, length, Some, refl, sym, ap, ◌∙◌, subst, arith}
 use Rattle.std.specs.Prelude.{IsSomeAnd}
-use Rattle.toml.specs.Data.{Members}
 use Rattle.charge_world.specs.declared.entry.Entry.{Entry}
 use Rattle.session_words.specs.declared.plan.SitePlan.{SitePlan}
 use Rattle.post_spec.specs.Codecs.{Codecs}
 use Rattle.plan_keys.specs.declared.fault.PlanFault.{PlanFault}
-use Rattle.plan_keys.specs.Keys.{Holds, value_at}
-use Rattle.plan_keys.specs.Faults.{text_says, told}
-use Rattle.site_plan.specs.Keys.{post_tables}
-use Rattle.site_plan.specs.Plans.{post_file, site_fault, IsSitePlanOf, site_told}
-use Rattle.site_turns.specs.declared.ending.Ended.{Ended}
-use Rattle.site_turns.specs.declared.ending.Ended.TheVariants as ended
+use Rattle.site_plan.specs.Plans.{site_told}
+use Rattle.station_command.specs.Ended.{Ended}
+use Rattle.station_command.specs.Ended.TheVariants as ended
 use Rattle.trace_files.specs.Recordings.{IsRecorded, IsRefusedAt}
 use Rattle.trace_files.proofs.OneLine.{one_line, not_refused}
 use Rattle.command_status.specs.declared.status.Status.{Status}
@@ -21,51 +15,14 @@ use Rattle.command_status.specs.declared.status.Status.TheVariants as status
 use Rattle.command_status.specs.FaultLines.{input_line}
 use Rattle.command_status.specs.Told.{SinkTold, TellsLine}
 use Rattle.station_command.specs.Refused.{key_of}
-use Rattle.replay_command.specs.Files.{FilesTold, IsTraceRefused}
+use Rattle.planned_traces.specs.Files.{FilesTold, AreTexts, ComesWith}
+use Rattle.planned_traces.proofs.Texts.{both_of, planned, other_plan, never}
 use Rattle.replay_command.specs.Lines.{Concludes}
-use Rattle.replay_command.specs.Decided.{ComesWith, TellsKey, AreTexts, IsDecided}
+use Rattle.replay_command.specs.Decided.{TellsKey, IsDecided}
 use Rattle.replay_command.specs.Replays.{IsRun, LeavesBy, ReplayLeaves}
-
--- ---- texts
-
--- what follows from two facts of one text
-both_of : (text : Option (List ℕ)) (P Q : List ℕ → Type 0) (R : Type 0) → ((t : List ℕ) → P t → Q t → R) → IsSomeAnd text P → IsSomeAnd text Q → R
-both_of None P Q R f p q = absurd p
-both_of (Some t) P Q R f p q = f t p q
-
-no_fault : (fault : PlanFault) → None ≡ Some fault → ⊥
-no_fault fault h = cc
-
--- a text that is a plan has no fault
-planned : (fault : PlanFault) (plan : SitePlan) (text : List ℕ) → IsSitePlanOf text plan → site_told text ≡ Some fault → ⊥
-planned fault plan text is first = no_fault fault (sym is.2 ∙ sym (ap (told site_fault) is.1) ∙ first)
 
 same_fault : (a b : PlanFault) → Some a ≡ Some b → a ≡ b
 same_fault a b h = cc
-
-same_table : (said : Result Members PlanFault) (a b : Members) → said ≡ Ok a → said ≡ Ok b → a ≡ b
-same_table said a b h k =
-    let both : Ok a ≡ Ok b = sym h ∙ k in cc
-
--- a text says how many posts there are
-same_posts : (p q : SitePlan) (text : List ℕ) → IsSitePlanOf text p → IsSitePlanOf text q → length p.post.items ≡ length q.post.items
-same_posts p q text a b =
-    let table : a.0 ≡ b.0 = same_table (text_says text) a.0 b.0 a.1 b.1 in
-    let posts = subst (λ (t : Members). AllZip (Holds post_file) (value_at post_tables t) p.post.items) table a.3.posts in
-    AllZip-long (Holds post_file) _ p.post.items posts ∙ sym (AllZip-long (Holds post_file) _ q.post.items b.3.posts)
-
--- ---- files
-
--- at the posts of one plan as at those of the other
-other_plan : (files : FilesTold) (p q : SitePlan) (P : ℕ → List ℕ → Type 0) → IsSomeAnd files.plan (λ text. IsSitePlanOf text p) → AreTexts files q P
-    → IsSomeAnd files.trace (P (length p.post.items))
-other_plan files p q P is texts =
-    let posts : length q.post.items ≡ length p.post.items =
-    both_of files.plan _ _ (length q.post.items ≡ length p.post.items) (λ text a b. same_posts q p text b a) is texts.0 in
-    subst (λ (n : ℕ). IsSomeAnd files.trace (P n)) posts texts.1
-
-never : (n m : ℕ) → m ≡ n → n < m → ⊥
-never n m is risen = omega (arith, is, risen)
 
 -- ---- the three decisions, by the status
 

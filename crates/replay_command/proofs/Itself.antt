@@ -9,9 +9,9 @@ use Rattle.post_spec.specs.Spelled.{AreDetermined}
 use Rattle.station_spec.specs.Blocks.{hearings}
 use Rattle.station_spec.specs.Runs.{IsSiteRun}
 use Rattle.endpoint.specs.Knowing.{newest}
-use Rattle.site_turns.specs.declared.ending.Ended.{Ended}
-use Rattle.site_turns.specs.declared.ending.Ended.TheVariants as ended
-use Rattle.site_turns.specs.Ending.{EndedAs, RanAs, TracedAs}
+use Rattle.station_command.specs.Ended.{Ended}
+use Rattle.station_command.specs.Ended.TheVariants as ended
+use Rattle.station_command.specs.Ending.{EndedAs, RanAs, TracedAs}
 use Rattle.trace_text.specs.Pasts.{trace_text}
 use Rattle.trace_reading.specs.declared.format.Format.TheVariants.{Numbered}
 use Rattle.trace_reading.proofs.Fronts.{one_past}

@@ -5,9 +5,9 @@ use Rattle.session_words.specs.declared.plan.SitePlan.{SitePlan}
 use Rattle.post_spec.specs.Codecs.{Codecs}
 use Rattle.plan_keys.specs.declared.fault.PlanFault.{PlanFault}
 use Rattle.plan_keys.specs.declared.fault.PlanFault.TheVariants as plan_fault
-use Rattle.site_turns.specs.declared.ending.Ended.{Ended}
-use Rattle.site_turns.specs.declared.ending.Ended.TheVariants as ended
-use Rattle.site_turns.specs.Ending.{AreFaults}
+use Rattle.station_command.specs.Ended.{Ended}
+use Rattle.station_command.specs.Ended.TheVariants as ended
+use Rattle.station_command.specs.Ending.{AreFaults}
 use Rattle.replay_wire.specs.Standing.{counted}
 use Rattle.site_replays.specs.Replayed.{IsReplayed}
 use Rattle.command_status.specs.declared.status.Status.{Status}
@@ -15,9 +15,9 @@ use Rattle.command_status.specs.declared.status.Status.TheVariants as status
 use Rattle.command_status.specs.Told.{SinkTold}
 use Rattle.plan_files.specs.FileTexts.{CountsFault}
 use Rattle.station_command.specs.Refused.{key_of}
-use Rattle.replay_command.specs.declared.recording.FilesFault.{FilesFault}
-use Rattle.replay_command.specs.declared.recording.FilesFault.TheVariants.{Unread, Plan, Line, Memory}
-use Rattle.replay_command.specs.Files.{FilesTold, AreFiles, HasFault}
+use Rattle.planned_traces.specs.declared.recording.FilesFault.{FilesFault}
+use Rattle.planned_traces.specs.declared.recording.FilesFault.TheVariants.{Unread, Plan, Line, Memory}
+use Rattle.planned_traces.specs.Files.{FilesTold, AreFiles, HasFault}
 use Rattle.replay_command.specs.Lines.{lines_of, Concludes, RefusesPlan, Refuses}
 use Rattle.replay_command.specs.Replays.{IsRun, Ran, LeavesBy}
 

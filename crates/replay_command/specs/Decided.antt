@@ -11,19 +11,11 @@ use Rattle.command_status.specs.FaultLines.{plan_line, input_line}
 use Rattle.command_status.specs.Told.{SinkTold, TellsLine}
 use Rattle.trace_files.specs.Recordings.{IsRecorded, IsRefusedAt}
 use Rattle.station_command.specs.Refused.{key_of}
-use Rattle.replay_command.specs.Files.{FilesTold}
-
--- this status, and so much more, or want of memory
-abbrev pub ComesWith : Status → Type 0 → Status → Type 0
-ComesWith wanted More s = ((s ≡ wanted) × More) ⊎ (s ≡ status.NoMemory)
+use Rattle.planned_traces.specs.Files.{FilesTold, AreTexts, ComesWith}
 
 -- the line of a plan's fault was told
 abbrev pub TellsKey : PlanFault → SinkTold → SinkTold → Type 0
 TellsKey fault before after = (key : List ℕ) × (key_of fault ≡ Some key) × TellsLine (plan_line key) before after
-
--- the texts of the files are a plan of which this holds, and one of which that holds at the plan's posts
-abbrev pub AreTexts : FilesTold → SitePlan → (ℕ → List ℕ → Type 0) → Type 0
-AreTexts files plan P = IsSomeAnd files.plan (λ text. IsSitePlanOf text plan) × IsSomeAnd files.trace (P (length plan.post.items))
 
 -- by the texts of the files, where the source tells them and both could be read
 pub record IsDecided (s : Status) (files : FilesTold) (trace_before trace out_before out : SinkTold) : Type 0 where

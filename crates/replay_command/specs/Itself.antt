@@ -5,8 +5,8 @@ use Rattle.session_words.specs.declared.plan.SitePlan.{SitePlan}
 use Rattle.session_words.specs.Plans.{IsSitePlan}
 use Rattle.post_spec.specs.Codecs.{Codecs}
 use Rattle.station_spec.specs.Runs.{IsSiteRun}
-use Rattle.site_turns.specs.declared.ending.Ended.{Ended}
-use Rattle.site_turns.specs.declared.ending.Ended.TheVariants as ended
+use Rattle.station_command.specs.Ended.{Ended}
+use Rattle.station_command.specs.Ended.TheVariants as ended
 use Rattle.trace_reading.specs.declared.format.Format.TheVariants.{Numbered}
 use Rattle.trace_reading.specs.Readings.{IsGood, text_in}
 use Rattle.trace_files.specs.Recordings.{IsRecorded}

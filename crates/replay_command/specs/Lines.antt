@@ -3,16 +3,16 @@
 use Rattle.std.specs.Prelude.{◌≡◌, ◌⊎◌, ℕ, ◌+◌, min, List, ◌++◌, length, Option, Some, None, codes, decimal}
 use Rattle.charge_world.specs.declared.entry.Entry.{Entry}
 use Rattle.charge_world.specs.Outside.{Appends}
-use Rattle.site_turns.specs.declared.ending.Ended.{Ended}
-use Rattle.site_turns.specs.declared.ending.Ended.TheVariants as ended
+use Rattle.station_command.specs.Ended.{Ended}
+use Rattle.station_command.specs.Ended.TheVariants as ended
 use Rattle.command_status.specs.declared.status.Status.{Status}
 use Rattle.command_status.specs.declared.status.Status.TheVariants as status
 use Rattle.command_status.specs.FaultLines.{Tells, plan_line, input_line, source_line}
 use Rattle.command_status.specs.Told.{SinkTold, TellsLine}
 use Rattle.station_command.specs.Lines.{IsCutOff}
 use Rattle.station_command.specs.Refused.{key_of}
-use Rattle.replay_command.specs.declared.recording.FilesFault.{FilesFault}
-use Rattle.replay_command.specs.declared.recording.FilesFault.TheVariants.{Unread, Plan, Line, Memory}
+use Rattle.planned_traces.specs.declared.recording.FilesFault.{FilesFault}
+use Rattle.planned_traces.specs.declared.recording.FilesFault.TheVariants.{Unread, Plan, Line, Memory}
 
 -- how many lines the trace of a past has: the first, and one for each entry. The count stands still at the end of 64 bits
 abbrev pub lines_of : List Entry → ℕ

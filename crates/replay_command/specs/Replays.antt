@@ -5,15 +5,15 @@ use Rattle.session_words.specs.declared.plan.SitePlan.{SitePlan}
 use Rattle.post_spec.specs.Codecs.{Codecs}
 use Rattle.plan_keys.specs.declared.fault.PlanFault.{PlanFault}
 use Rattle.site_plan.specs.Plans.{site_told}
-use Rattle.site_turns.specs.declared.ending.Ended.{Ended}
-use Rattle.site_turns.specs.Ending.{AreFaults}
+use Rattle.station_command.specs.Ended.{Ended}
+use Rattle.station_command.specs.Ending.{AreFaults}
 use Rattle.site_replays.specs.Replayed.{IsReplayed}
 use Rattle.command_status.specs.declared.status.Status.{Status}
 use Rattle.command_status.specs.declared.status.Status.TheVariants as status
 use Rattle.command_status.specs.FaultLines.{plan_line, input_line, source_line}
 use Rattle.command_status.specs.Told.{SinkTold, TellsLine, OfText}
 use Rattle.station_command.specs.Refused.{key_of}
-use Rattle.replay_command.specs.Files.{FilesTold, AreFiles, IsTraceRefused}
+use Rattle.planned_traces.specs.Files.{FilesTold, AreFiles, IsTraceRefused}
 use Rattle.replay_command.specs.Lines.{lines_of, Concludes}
 use Rattle.replay_command.specs.Decided.{IsDecided}
 

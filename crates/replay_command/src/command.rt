@@ -7,13 +7,13 @@ ghost use Rattle.replay_wire.specs.Replays.{AllCanBeHeard};
 ghost use Rattle.station_command.specs.Served.{IsUnbegun};
 ghost use Rattle.command_status.specs.Told.{sink_told, TellsAlways};
 ghost use Rattle.command_status.specs.Completeness.{Completes};
-ghost use Rattle.replay_command.specs.Files.{files_told};
+ghost use Rattle.planned_traces.specs.Files.{files_told};
 ghost use Rattle.replay_command.specs.Replays.{Ran, ReplayLeaves};
 
 use crate::lines::{conclude, refuse};
-use crate::recording::{Recording, recording_in};
 use charge_world::{Sink, Source};
 use command_status::Status;
+use planned_traces::{Recording, recording_in};
 use site_codec::Codec;
 use site_replays::replay as replay_at;
 use site_replays::site_core::Site;

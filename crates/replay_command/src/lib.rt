@@ -7,8 +7,8 @@
 mod command;
 mod laws;
 mod lines;
-mod recording;
 
 pub use command::replay;
 pub use laws::writes_itself;
+pub use planned_traces;
 pub use station_command;

@@ -4,9 +4,9 @@ ghost use Rattle.std.specs.Prelude.{◌≡◌, ◌+◌, ◌≤◌, length, min};
 ghost use Rattle.command_status.specs.Told.{sink_told};
 ghost use Rattle.replay_command.specs.Lines.{replay_line, Prints, Concludes, Refuses};
 
-use crate::recording::FilesFault;
 use charge_world::Sink;
 use command_status::{Line, Status, add, add_number, line_of_input, tell_fault, tell_plan};
+use planned_traces::FilesFault;
 use site_replays::Replayed;
 use site_replays::site_core::Ended;
 use station_command::key_of;

@@ -1,3 +1,5 @@
+pub use Rattle.site_core.specs.Ending
+pub use Rattle.site_core.specs.Ended
 pub mod Limits
 pub mod Reading
 pub mod Posts

@@ -11,7 +11,7 @@ use Rattle.safe_runs.specs.Opening.{OpensAgain, EndsOpen}
 use Rattle.failed_replies.specs.Replies.{AreOpened}
 use Rattle.mandated_runs.specs.Holding.{HoldsMandated, IsHeldRightly}
 use Rattle.coming_causes_open.specs.Causing.{OpenAtCauses}
-use Rattle.opens_have_reasons.specs.Reasons as opens
+use Rattle.applied_causes.specs.Reasons as opens
 use Rattle.caused_ends.specs.Ending.{HasNoCause, EndByCauses}
 use Rattle.caused_ends.specs.Opening.{AreReasoned, OpenAtFirstCauses}
 use Rattle.applied_causes.specs.Applied.{ApplyCauses, ApplyWords}

@@ -9,7 +9,7 @@ use Rattle.endpoint.specs.Telling.{Carries, CarriesText}
 use Rattle.site_posts.specs.declared.place.Place.{Place}
 use Rattle.site_posts.specs.Places.{place_of}
 use Rattle.site_posts.specs.Filling.{at}
-use Rattle.site_turns.specs.Ending.{AreCounts, Counts}
+use Rattle.site_laws.specs.Ending.{AreCounts, Counts}
 use Rattle.station_command.specs.Lines.{reports_of, CountFrom}
 use Rattle.station_command.proofs.Printed.{as_many, counts_from}
 

@@ -7,7 +7,7 @@ use Rattle.charge_world.specs.Outside.{IsFault, Appends, AppendsSome}
 use Rattle.site_posts.specs.declared.place.Place.{Place}
 use Rattle.site_posts.specs.declared.report.PostReport.{PostReport}
 use Rattle.site_posts.specs.Filling.{at, no_place}
-use Rattle.site_turns.specs.Ending.{Counts}
+use Rattle.site_laws.specs.Ending.{Counts}
 use Rattle.command_status.proofs.Pieces.{appends_more, appends_front, appends_first}
 use Rattle.station_command.specs.Lines.{report_line, report_lines, reports_of, CountFrom}
 

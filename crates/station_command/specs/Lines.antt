@@ -7,9 +7,9 @@ use Rattle.charge_world.specs.declared.entry.Entry.{Entry}
 use Rattle.charge_world.specs.Outside.{Appends, AppendsSome}
 use Rattle.site_posts.specs.declared.place.Place.{Place}
 use Rattle.site_posts.specs.declared.report.PostReport.{PostReport}
-use Rattle.site_turns.specs.declared.ending.Ended.{Ended}
-use Rattle.site_turns.specs.declared.ending.Ended.TheVariants as ended
-use Rattle.site_turns.specs.Ending.{Counts}
+use Rattle.site_laws.specs.Ended.{Ended}
+use Rattle.site_laws.specs.Ended.TheVariants as ended
+use Rattle.site_laws.specs.Ending.{Counts}
 use Rattle.command_status.specs.declared.status.Status.{Status}
 use Rattle.command_status.specs.declared.status.Status.TheVariants as status
 use Rattle.command_status.specs.FaultLines.{Tells, turns_line, wire_line}

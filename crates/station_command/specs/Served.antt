@@ -7,8 +7,8 @@ use Rattle.session_words.specs.declared.plan.SitePlan.{SitePlan}
 use Rattle.post_spec.specs.Codecs.{Codecs}
 use Rattle.endpoint.specs.Telling.{Carries, CarriesText}
 use Rattle.site_posts.specs.declared.report.PostReport.{PostReport}
-use Rattle.site_turns.specs.declared.ending.Ended.{Ended}
-use Rattle.site_turns.specs.Ending.{RanAs, EndedAs, AwaitedAs, TracedAs}
+use Rattle.site_laws.specs.Ended.{Ended}
+use Rattle.site_laws.specs.Ending.{RanAs, EndedAs, AwaitedAs, TracedAs}
 use Rattle.site_laws.specs.Lawful.{IsLawful}
 use Rattle.command_status.specs.declared.status.Status.{Status}
 use Rattle.command_status.specs.declared.status.Status.TheVariants as status

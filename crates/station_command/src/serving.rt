@@ -3,7 +3,7 @@
 ghost use Rattle.std.specs.Prelude.{◌≡◌, ◌≢◌, ◌<◌, ◌⊎◌};
 ghost use Rattle.session_words.specs.Plans.{IsSitePlan};
 ghost use Rattle.post_spec.specs.Codecs.{codecs};
-ghost use Rattle.site_turns.specs.Ending.{AreMadeOf};
+ghost use Rattle.site_laws.specs.Ending.{AreMadeOf};
 ghost use Rattle.command_status.specs.Told.{sink_told};
 ghost use Rattle.station_command.specs.Served.{wire_told, Serves, IsBegun};
 

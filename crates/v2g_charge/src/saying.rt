@@ -2,8 +2,8 @@
 
 use charge_run::{Status, WordList};
 use fault_sentences::{
-    Asked, DecodePlace, EncodePlace, is_of_a_car, line_in, place_in, say_help, say_misused,
-    say_plan, say_script, say_trouble, say_version,
+    Asked, DecodePlace, EncodePlace, failed_check_in, is_of_a_car, line_in, place_in,
+    say_failed_check, say_help, say_misused, say_plan, say_script, say_trouble, say_version,
 };
 use net_wire::{FileSource, NetWire, StandardOutput, TraceFile};
 use std::io;
@@ -24,9 +24,6 @@ fn sentence_of(status: Status) -> Option<&'static str> {
         Status::NoMemory => Some("There is too little memory. Nothing was begun."),
         Status::TurnsSpent => Some(
             "The greatest number of hearings, `turns` of the plan, was spent before the end. Give it more.",
-        ),
-        Status::AuditNo => Some(
-            "A check of the trace fails: the line on the output has the number of the trace's line and that of the check.",
         ),
         Status::Unreached => Some(
             "No charging profile within the limits reaches the energy by the departure. Ask for less, or leave later.",
@@ -59,6 +56,7 @@ pub(crate) fn say(
         Status::WireFault => say_network(rt, words, outside),
         Status::SinkFault => say_sinks(rt, outside),
         Status::SourceFault => say_source(rt, outside.files),
+        Status::AuditNo => say_audit(rt, words, outside),
         _ => Ok(()),
     }
 }
@@ -96,11 +94,20 @@ fn say_done(rt: &HostRuntime, words: &WordList, outside: Outside<'_, '_>) -> io:
     Ok(())
 }
 
+/// Says what a check found that fails.
+fn say_audit(rt: &HostRuntime, words: &WordList, outside: Outside<'_, '_>) -> io::Result<()> {
+    let (plan, trace) = (word(words, 1), word(words, 2));
+    match failed_check_in(outside.out.last()) {
+        Some(failed) => say_failed_check(rt, rt.alloc(), outside.files, plan, trace, failed),
+        None => rt.eprintln("A check of the trace fails."),
+    }
+}
+
 /// Says why a plan is refused.
 fn say_refused(rt: &HostRuntime, words: &WordList, outside: Outside<'_, '_>) -> io::Result<()> {
     let name = word(words, 1);
     match word(words, 0) {
-        "station" | "replay" => say_plan(rt, rt.alloc(), outside.files, false, name),
+        "station" | "replay" | "audit" => say_plan(rt, rt.alloc(), outside.files, false, name),
         "car" => say_plan(rt, rt.alloc(), outside.files, true, name),
         "offer" => say_form(rt, name, CALENDAR),
         "schedule" => say_form(rt, name, NEED),
@@ -132,7 +139,7 @@ fn say_input(rt: &HostRuntime, words: &WordList, outside: Outside<'_, '_>) -> io
             text: second,
             place,
         }),
-        "replay" => say_line(rt, second, place, STATION_LINE, outside),
+        "replay" | "audit" => say_line(rt, second, place, STATION_LINE, outside),
         "migrate" => say_line(rt, first, place, PLAIN_LINE, outside),
         "schedule" | "pick" => rt.eprintln(DecodePlace {
             dialect: "iso",

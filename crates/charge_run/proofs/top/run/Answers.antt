@@ -1,5 +1,5 @@
 use Rattle.std.proofs.Common.{inl, inr, [], ◌∷◌}
-use Rattle.command_words.specs.Command.{replay, decode, encode, basic, migrate, offer, schedule, services, pick}
+use Rattle.command_words.specs.Command.{replay, audit, decode, encode, basic, migrate, offer, schedule, services, pick}
 use Rattle.charge_run.proofs.Answered.{only_refused, only_unscanned, same_decoded, same_encoded, same_offered, same_picked, same_served, wants_nothing}
 use Rattle.charge_run.proofs.WordLists.{one_decode, one_encode, one_offer, one_pick, one_services}
 use Rattle.charge_run.proofs.Complete.{unfailed}
@@ -35,6 +35,11 @@ pub returns-in-Ok-Replay-clause-untraced : goal.returns-in-Ok-Replay-clause-untr
 returns-in-Ok-Replay-clause-untraced g c =
     let told = (rw c.in-Ok-Replay.field-0-is at c.in-Ok-Replay.ensures.command) in
     λ none. absurd (none (inr (inl (_, _, told))))
+
+pub returns-in-Ok-Audit-clause-apart : goal.returns-in-Ok-Audit-clause-apart
+returns-in-Ok-Audit-clause-apart g c =
+    let told = (rw c.in-Ok-Audit.field-0-is at c.in-Ok-Audit.ensures.command) in
+    λ none. absurd (none (inl (inr (inr (inr (inr (inr (_, _, told))))))))
 
 pub returns-in-Ok-Basic-clause-apart : goal.returns-in-Ok-Basic-clause-apart
 returns-in-Ok-Basic-clause-apart g c =
@@ -76,7 +81,7 @@ returns-in-Ok-Services-clause-services g c name id is =
 pub returns-in-Ok-Services-clause-apart : goal.returns-in-Ok-Services-clause-apart
 returns-in-Ok-Services-clause-apart g c =
     let told = (rw c.in-Ok-Services.field-0-is at c.in-Ok-Services.ensures.command) in
-    λ none. absurd (none (inl (inr (inr (inr (inr (_, _, told)))))))
+    λ none. absurd (none (inl (inr (inr (inr (inr (inl (_, _, told))))))))
 
 pub returns-in-Ok-Pick-clause-pick : goal.returns-in-Ok-Pick-clause-pick
 returns-in-Ok-Pick-clause-pick g c want payload is =
@@ -95,6 +100,11 @@ pub returns-in-Err-NoCommand-clause-replay : goal.returns-in-Err-NoCommand-claus
 returns-in-Err-NoCommand-clause-replay g c plan recorded is =
     let none = (rw c.in-Err-NoCommand.field-0-is at c.in-Err-NoCommand.ensures.fault) in
     absurd (none (replay plan recorded) is)
+
+pub returns-in-Err-NoCommand-clause-audit : goal.returns-in-Err-NoCommand-clause-audit
+returns-in-Err-NoCommand-clause-audit g c plan recorded is =
+    let none = (rw c.in-Err-NoCommand.field-0-is at c.in-Err-NoCommand.ensures.fault) in
+    absurd (none (audit plan recorded) is)
 
 pub returns-in-Err-NoCommand-clause-basic : goal.returns-in-Err-NoCommand-clause-basic
 returns-in-Err-NoCommand-clause-basic g c name is =
@@ -156,6 +166,9 @@ returns-in-Ok-Car-clause-complete g c = λ none. unfailed (status.Done ∷ statu
 
 pub returns-in-Ok-Replay-clause-complete : goal.returns-in-Ok-Replay-clause-complete
 returns-in-Ok-Replay-clause-complete g c = λ none. unfailed (status.Done ∷ status.NoMemory ∷ status.Plan ∷ status.Input ∷ []) c.replay_trace.result (tt, (tt, (tt, (tt, tt)))) (c.replay_trace.ensures.complete (none.0, (none.1.0, (none.1.1.0, tt))))
+
+pub returns-in-Ok-Audit-clause-complete : goal.returns-in-Ok-Audit-clause-complete
+returns-in-Ok-Audit-clause-complete g c = λ none. unfailed (status.Done ∷ status.NoMemory ∷ status.Plan ∷ status.Input ∷ status.AuditNo ∷ []) c.audit_trace.result (tt, (tt, (tt, (tt, (tt, tt))))) (c.audit_trace.ensures.complete (none.0, (none.1.0, tt)))
 
 pub returns-in-Ok-Decode-clause-complete : goal.returns-in-Ok-Decode-clause-complete
 returns-in-Ok-Decode-clause-complete g c = λ none. unfailed (status.Done ∷ status.NoMemory ∷ status.Input ∷ []) c.decode.result (tt, (tt, (tt, tt))) (c.decode.ensures.complete (none.1.0, tt))

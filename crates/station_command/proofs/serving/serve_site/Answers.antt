@@ -1,7 +1,7 @@
 use Rattle.std.proofs.Common.{◌≡◌, ℕ, length, Some, inr, ap, subst, ◌∙◌, arith}
 use Rattle.charge_world.specs.declared.ports.Ports.{Ports}
 use Rattle.endpoint.specs.Telling.{Carries}
-use Rattle.site_turns.specs.Ending.{EndedAs}
+use Rattle.site_laws.specs.Ending.{EndedAs}
 use Rattle.station_command.specs.Lines.{reports_of}
 use Rattle.station_command.proofs.Begun.{IsNew, started_run, started_untils, started_text, counted, report_each}
 use Rattle.station_command.proofs.serving.serve_site.Goals as goal

@@ -1,14 +1,16 @@
--- Own: the two files of a replay: the plan of a station, and a trace.
-use Rattle.std.specs.Prelude.{◌≡◌, ◌⊎◌, ℕ, List, length, Option, Some}
+-- Own: two files: the plan of a station, and a trace at its posts.
+use Rattle.std.specs.Prelude.{◌≡◌, ◌⊎◌, ℕ, List, length, Option, Some, IsSomeAnd}
 use Rattle.charge_world.specs.declared.entry.Entry.{Entry}
 use Rattle.session_words.specs.declared.plan.SitePlan.{SitePlan}
 use Rattle.plan_keys.specs.declared.fault.PlanFault.{PlanFault}
 use Rattle.plan_keys.specs.declared.fault.PlanFault.TheVariants as plan_fault
 use Rattle.site_plan.specs.Plans.{IsSitePlanOf, site_told}
 use Rattle.trace_files.specs.Recordings.{IsRecorded, IsRefusedAt}
+use Rattle.command_status.specs.declared.status.Status.{Status}
+use Rattle.command_status.specs.declared.status.Status.TheVariants as status
 use Rattle.command_status.specs.Told.{OfText}
-use Rattle.replay_command.specs.declared.recording.FilesFault.{FilesFault}
-use Rattle.replay_command.specs.declared.recording.FilesFault.TheVariants.{Unread, Plan, Line, Memory}
+use Rattle.planned_traces.specs.declared.recording.FilesFault.{FilesFault}
+use Rattle.planned_traces.specs.declared.recording.FilesFault.TheVariants.{Unread, Plan, Line, Memory}
 
 -- what a source tells of them: their texts, and its count of faults, which went from n to m
 pub record FilesTold : Type 0 where
@@ -51,3 +53,13 @@ IsBehind fault Unread = Unit {0}
 IsBehind fault (Plan told) = told ≡ fault
 IsBehind fault (Line number) = ⊥
 IsBehind fault Memory = Unit {0}
+
+-- ---- by their texts
+
+-- the texts of the files are a plan of which this holds, and one of which that holds at the plan's posts
+abbrev pub AreTexts : FilesTold → SitePlan → (ℕ → List ℕ → Type 0) → Type 0
+AreTexts files plan P = IsSomeAnd files.plan (λ text. IsSitePlanOf text plan) × IsSomeAnd files.trace (P (length plan.post.items))
+
+-- this status, and so much more, or want of memory
+abbrev pub ComesWith : Status → Type 0 → Status → Type 0
+ComesWith wanted More s = ((s ≡ wanted) × More) ⊎ (s ≡ status.NoMemory)

@@ -1,8 +1,8 @@
 -- Own: what words that are no command ask for.
 use Rattle.std.specs.Prelude.{ℕ, if◌then◌else◌, List, [], ◌∷◌, codes}
 use Rattle.std.specs.Str.{bytes_eq}
-use Rattle.fault_sentences.specs.declared.usage.Asked.{Asked}
-use Rattle.fault_sentences.specs.declared.usage.Asked.TheVariants.{Help, Version, Mistaken}
+use Rattle.command_words.specs.declared.asked.Asked.{Asked}
+use Rattle.command_words.specs.declared.asked.Asked.TheVariants.{Help, Version, Mistaken}
 
 abbrev pub asked_of : List ℕ → Asked
 asked_of word =

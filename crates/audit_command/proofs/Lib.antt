@@ -1,0 +1,5 @@
+mod Pasts
+mod Verdicts
+mod Decided
+mod Leaving
+mod Complete
