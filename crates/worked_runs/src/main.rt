@@ -1,7 +1,7 @@
 //! Does what the program does over worked rows, vectors of its commands and recorded runs, with the outside in memory, and counts what comes out as
 //! the files say. What comes otherwise is printed.
 //!
-//! Each word is `rows=FILE`, `vectors=FILE` or `runs=FILE`.
+//! Each word is `rows=FILE`, `vectors=FILE`, `runs=FILE` or `audits=FILE`.
 #![tactic(auto)]
 
 mod counts;
@@ -35,6 +35,7 @@ fn counts_of(rt: &impl Print, alloc: Global, kind: &str, text: &str) -> Result<C
         "rows" => rows::counts_of(rt, alloc, text),
         "vectors" => vectors::counts_of(rt, alloc, text),
         "runs" => runs::counts_of(rt, alloc, text),
+        "audits" => runs::audits_of(rt, alloc, text),
         _ => bail!("no kind of file"),
     }
 }

@@ -36,7 +36,7 @@ fn is_told_so(alloc: Global, trace: &str, left: &Left) -> Result<bool> {
 }
 
 /// Whether the status and the line are those that a run wants.
-fn is_wanted(alloc: Global, run: &Run, left: &Left) -> Result<bool> {
+pub(crate) fn is_wanted(alloc: Global, run: &Run, left: &Left) -> Result<bool> {
     let status = left.status.number();
     let line = str::from_utf8(left.out.bytes())?;
     Ok(format!(in alloc; "{status}\n{line}")? == run.wanted)
@@ -44,12 +44,23 @@ fn is_wanted(alloc: Global, run: &Run, left: &Left) -> Result<bool> {
 
 /// Replays a trace under a plan. The writes of these numbers on the new one fail.
 fn replayed(alloc: Global, plan: &str, recorded: &str, trace: Vec<u32>) -> Result<Left> {
-    let words = ["replay", "plan", "recorded"];
-    let files = [("plan", plan.as_bytes()), ("recorded", recorded.as_bytes())];
     let failing = Failing {
         trace,
         ..Failing::none(alloc)
     };
+    left_over(alloc, "replay", plan, recorded, failing)
+}
+
+/// What a command leaves over a plan and a trace.
+pub(crate) fn left_over(
+    alloc: Global,
+    command: &str,
+    plan: &str,
+    recorded: &str,
+    failing: Failing,
+) -> Result<Left> {
+    let words = [command, "plan", "recorded"];
+    let files = [("plan", plan.as_bytes()), ("recorded", recorded.as_bytes())];
     let mut wire = MemoryWire::make(alloc, Vec::new(alloc), Vec::new(alloc), 0, 0)?;
     Ok(left_by(alloc, &words, &files, failing, &mut wire)?)
 }
