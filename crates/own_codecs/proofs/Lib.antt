@@ -1,0 +1,5 @@
+pub mod Weighed
+pub mod IsoWeights
+pub mod DinWeights
+pub mod Telling
+pub mod Weighing

@@ -1,0 +1,4 @@
+pub mod Own
+pub mod Owning
+pub mod Weighing
+pub mod Leaving
