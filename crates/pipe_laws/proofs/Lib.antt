@@ -3,6 +3,7 @@ pub mod Station
 pub mod Car
 pub mod Pairs
 pub mod Runs
+pub mod Words
 pub mod Once
 pub mod Sessions
 pub mod Losing

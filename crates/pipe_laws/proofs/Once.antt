@@ -201,7 +201,7 @@ does_once c one site st h r q a b l x y =
 site_of : Station → SitePlan
 site_of st = record { limit = st.limit; turns = 0; sessions = 0; post = record { items = [] } }
 
-does_one : (c : Codecs) → AreDetermined c → (st : Station) (h : List Happening) (r q : Option Reading) (a b : Act) → StationMayDo c st h r a → StationMayDo c st h q b
+pub does_one : (c : Codecs) → AreDetermined c → (st : Station) (h : List Happening) (r q : Option Reading) (a b : Act) → StationMayDo c st h r a → StationMayDo c st h q b
     → StationDoes r a ≡ StationDoes q b
 unfolding site_of
 does_one c one st h r q a b x y = does_once c one (site_of st) st h r q a b refl x y
@@ -211,7 +211,7 @@ busy_by : (c : Codecs) (plan : PostPlan) (S : ℕ → ℕ → Type 0) (s : State
 busy_by c plan S s None todo q i f = let g : None ≡ Some todo = sym q.none ∙ f in cc
 busy_by c plan S s (Some x) todo q i f = subst (λ (w : Option Payload). IsRead c plan S (decided plan s) w (Some x)) q.no_word i
 
-busy : (c : Codecs) (st : Station) (h : List Happening) (r : Option Reading) (a : Act) → StationMayDo c st h r a → StationRests st h → ⊥
+pub busy : (c : Codecs) (st : Station) (h : List Happening) (r : Option Reading) (a : Act) → StationMayDo c st h r a → StationRests st h → ⊥
 busy c st h r a x q = busy_by c st.post (Shows st.limit [] []) (station_state st h) r x.todo q x.read x.acts
 
 reads_once : (cs : car.Codecs) → car_spelled.AreDetermined cs → (o : Option CarPlan) (h : List Happening) (v w : car.Judged) → CarMayReadBy cs o h v → CarMayReadBy cs o h w → CarReads v ≡ CarReads w

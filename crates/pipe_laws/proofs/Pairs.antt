@@ -185,7 +185,7 @@ lost_to_car most s c to_s to_c bytes rest n e (IsOnTheWayBack a u q p w) =
 
 -- ---- the car reads and does something
 
-car_decided_right : (most : ℕ) (plan : CarPlan) (s : State) (c : car_states.State) (to_s to_c : List ℕ) → Right most s c to_s to_c → Right most s (car_deciding.decided plan c) to_s to_c
+pub car_decided_right : (most : ℕ) (plan : CarPlan) (s : State) (c : car_states.State) (to_s to_c : List ℕ) → Right most s c to_s to_c → Right most s (car_deciding.decided plan c) to_s to_c
 car_decided_right most plan s c to_s to_c (IsOfCar a b u v q) = IsOfCar a b u (subst HasRead (sym (car.decided_unread plan c)) v) q
 car_decided_right most plan s c to_s to_c (IsOnTheWay b v q p w) = IsOnTheWay b (subst HasRead (sym (car.decided_unread plan c)) v) q (car.decided_silent plan c p) w
 car_decided_right most plan s c to_s to_c (IsOfStation a b u v p) = IsOfStation a b u (subst HasRead (sym (car.decided_unread plan c)) v) (car.decided_silent plan c p)

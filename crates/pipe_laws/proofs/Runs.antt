@@ -251,7 +251,7 @@ step most c ccs st h (StationHears bytes) m l f p = turned most st h (StationHea
 step most c ccs st h (CarHears bytes) m l f p = turned most st h (CarHears bytes) (car_plan h) f.plan f.charger f.came f.turn p
 step most c ccs st h TimePasses m l f p = turned most st h TimePasses (car_plan h) f.plan f.charger f.came f.turn p
 
-holds : (most : ℕ) (c : Codecs) (ccs : car_codecs.Codecs) (st : Station) (h : List Happening) → most ≤ 65544 → IsRun c ccs st h → AllByRecursion (IsShort most) h → Holds most st h (car_plan h)
+pub holds : (most : ℕ) (c : Codecs) (ccs : car_codecs.Codecs) (st : Station) (h : List Happening) → most ≤ 65544 → IsRun c ccs st h → AllByRecursion (IsShort most) h → Holds most st h (car_plan h)
 holds most c ccs st [] m r l = record { steps = refl; to_station_is = refl; to_car_is = refl }
 holds most c ccs st (e ∷ h) m r l = step most c ccs st h e m l.0 r.1 (holds most c ccs st h m r.0 l.1)
 

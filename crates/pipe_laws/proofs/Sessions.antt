@@ -34,11 +34,11 @@ begins e (f ∷ more) w a =
     record { first = b.first; later = e ∷ b.later; is = ap (λ (x : List Happening). e ∷ x) b.is; first_within = b.first_within; within = (w, b.within) }
 
 -- in a run the first of what happens behind a history follows from it
-behind_follows : (c : Codecs) (cs : car.Codecs) (st : Station) (later h : List Happening) (e : Happening) → IsRun c cs st (later ++ e ∷ h) → Follows c cs st h e
+pub behind_follows : (c : Codecs) (cs : car.Codecs) (st : Station) (later h : List Happening) (e : Happening) → IsRun c cs st (later ++ e ∷ h) → Follows c cs st h e
 behind_follows c cs st [] h e r = r.1
 behind_follows c cs st (x ∷ later) h e r = behind_follows c cs st later h e r.0
 
-split : (later h : List Happening) (e : Happening) → (later ++ e ∷ []) ++ h ≡ later ++ e ∷ h
+pub split : (later h : List Happening) (e : Happening) → (later ++ e ∷ []) ++ h ≡ later ++ e ∷ h
 split later h e = append_assoc later (e ∷ []) h
 
 one_more : (c : Codecs) (cs : car.Codecs) → AreDetermined c → car_spelled.AreDetermined cs → (st : Station) (h k : List Happening) (e : Happening) (more : List Happening) → IsWithin e

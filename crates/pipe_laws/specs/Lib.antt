@@ -1,4 +1,5 @@
 pub mod OneMessage
+pub mod Words
 pub mod Determined
 pub mod Losing
 pub mod PipePasts

@@ -2,6 +2,7 @@
 //! is under way, and the plans and the seed determine the run.
 //!
 //! Proved: for any codecs, `one_message_is_under_way` (to one end at most, as long as no message is longer than the longest that is read);
+//! `words_are_within_hearings` (a car reads one at most in each, and hears no more than its plan's turns, so that a session has fewer exchanges);
 //! `sessions_are_determined` (by what happened before, where codecs are determined, and so a run of the pipe by plans and seed);
 //! `nothing_is_lost` (what was said is what was heard of it and then what is under way); `pasts_show_steps`; `pasts_are_runs` (in the first
 //! session what the pipe tells of each end is a run of that end, where what is heard is within its types).
@@ -13,6 +14,7 @@ ghost use Rattle.pipe_laws.specs.Determined.{PipeRunsAreDetermined, SessionsAreD
 ghost use Rattle.pipe_laws.specs.Losing.{NothingIsLost, PastsShowSteps};
 ghost use Rattle.pipe_laws.specs.OneMessage.{OneIsUnderWay};
 ghost use Rattle.pipe_laws.specs.PipePasts.{CarPastsAreRuns, StationPastsAreRuns};
+ghost use Rattle.pipe_laws.specs.Words.{ExchangesAreWithinTurns, HearsWithinTurns, OneWordAHearing};
 
 use car_spec::CarCoded;
 use post_spec::Coded;
@@ -21,6 +23,14 @@ use post_spec::Coded;
 /// both say at most one message is under way, to one of them.
 pub fn one_message_is_under_way<C: Coded, D: CarCoded>()
     ensures { OneIsUnderWay (post.codecs C.negotiates C.reads C.encodes) (car.codecs D.offers D.responds D.reads D.encodes) }
+{}
+
+/// A car reads a word at most in each of its hearings, and none in the one in which it comes; it has no more hearings than its plan has turns.
+/// So a session has fewer exchanges than that: fewer than 2^32, as no plan has more turns.
+pub fn words_are_within_hearings<C: Coded, D: CarCoded>()
+    ensures words { OneWordAHearing (post.codecs C.negotiates C.reads C.encodes) (car.codecs D.offers D.responds D.reads D.encodes) }
+    ensures hearings { HearsWithinTurns (post.codecs C.negotiates C.reads C.encodes) (car.codecs D.offers D.responds D.reads D.encodes) }
+    ensures exchanges { ExchangesAreWithinTurns (post.codecs C.negotiates C.reads C.encodes) (car.codecs D.offers D.responds D.reads D.encodes) }
 {}
 
 /// Behind what happened before, a session of the pipe goes one way, where a payload is judged one way and what is said has one encoding. So

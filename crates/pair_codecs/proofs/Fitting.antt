@@ -1,0 +1,20 @@
+-- The codecs of both ends fit together.
+use Rattle.site_codec_laws.proofs.Lawful as station
+use Rattle.car_codec_laws.proofs.Lawful as vehicle
+use Rattle.pair_readings.specs.Codecs.{AreMutual}
+use Rattle.pair_negotiation.proofs.Beginning.{pairs_begin}
+use Rattle.pair_codecs.specs.Codecs.{post_codecs, car_codecs, SessionsBegin}
+use Rattle.pair_codecs.proofs.Agreed.{agree_on_shared}
+
+pub are_mutual : AreMutual post_codecs car_codecs
+are_mutual = record {
+  to_post = λ dialect payload word reads. reads;
+  to_car = λ dialect payload word reads. reads;
+  requests = vehicle.reads_back;
+  replies = station.reads_back;
+  of_post = station.are_determined;
+  of_car = vehicle.are_determined;
+}
+
+pub sessions_begin : SessionsBegin
+sessions_begin = pairs_begin post_codecs car_codecs are_mutual agree_on_shared

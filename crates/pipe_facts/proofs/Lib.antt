@@ -1,0 +1,4 @@
+pub mod Moments
+pub mod Facts
+pub mod Calm
+pub mod InTime
