@@ -6,8 +6,8 @@ use arrayvec::ArrayVec;
 use charge_world::{Dialect, IsolationLevel, Order, PilotState, PlantEvent, Tenths};
 use session_rules::{
     Break, Found, PreCharged, Stage, Watch, allowed_watts, ask_of, asks, break_cause, facts_behind,
-    found_by, is_waiting, lowered_by, order_of, plant_cause, reply_to, stage_behind, timeout_of,
-    waiting_reply, word_cause,
+    found_by, is_waiting, judge, lowered_by, order_of, plant_cause, reply_to, stage_behind,
+    timeout_of, waiting_reply, word_cause,
 };
 use session_words::{
     Amount, Ask, CarLimits, Code, DcStatus, EndCause, EvseId, EvseText, Facts, Mode, Notify, Phase,
@@ -211,16 +211,17 @@ fn is_answered(
     requires { IsPostPlan plan.now }
 {
     let (code, order, cause, row) = parts_of(wanted);
-    let reply = reply_to(&stage, facts, plan, request, 0);
+    let judged = judge(&stage, facts, plan, request);
+    let reply = reply_to(&stage, facts, plan, request, judged, 0);
     let is_told = match tell_of(told) {
         Some(tell) => reply.tell == tell,
         None => true,
     };
     is_told
         && reply.code == code
-        && order_of(&stage, facts, plan, request, 0) == order
+        && order_of(&stage, facts, plan, request, judged, 0) == order
         && word_cause(false, found_by(reply.code, &request.ask)) == cause
-        && stage_behind(stage, facts, plan, request, 0).row == row
+        && stage_behind(stage, facts, plan, request, judged, 0).row == row
 }
 
 /// A request, and how it is answered.
@@ -455,7 +456,8 @@ fn is_renewed() -> bool {
     };
     let charging = stage(Phase::DcCharging, None);
     let renegotiate = request(ask_from(Asked::Delivery(Progress::Renegotiate)));
-    let renewed = facts_behind(renewing, &charging, &plan, &renegotiate);
+    let judged = judge(&charging, &renewing, &plan, &renegotiate);
+    let renewed = facts_behind(renewing, &charging, &plan, &renegotiate, judged);
     !renewed.renew
         && is_answered(
             &plan,
@@ -586,8 +588,9 @@ fn shows_the_current(plan: &PostPlan, charging: &Stage) -> bool
         evse: EvseId::Text(plan.evse_id.copied()),
         current: Some(amount(320)),
     };
-    order_of(charging, &facts, plan, &status, 22080) == Some(limits)
-        && reply_to(charging, &facts, plan, &status, 22080).tell == told
+    let judged = judge(charging, &facts, plan, &status);
+    order_of(charging, &facts, plan, &status, judged, 22080) == Some(limits)
+        && reply_to(charging, &facts, plan, &status, judged, 22080).tell == told
 }
 
 /// A car that comes back joins the session that was kept, and a new one otherwise.
@@ -601,8 +604,9 @@ fn joins(is_kept: bool, code: Code, token: u64) -> bool {
         ..facts(None)
     };
     let begun = Stage::new(7).negotiated(Dialect::Iso);
-    let reply = reply_to(&begun, &facts, &plan, &setup, 0);
-    let behind = facts_behind(facts, &begun, &plan, &setup);
+    let judged = judge(&begun, &facts, &plan, &setup);
+    let reply = reply_to(&begun, &facts, &plan, &setup, judged, 0);
+    let behind = facts_behind(facts, &begun, &plan, &setup, judged);
     reply.code == code
         && reply.session == SessionId::of_token(token)
         && behind.joined == is_kept
@@ -645,9 +649,10 @@ fn is_cut(stop: bool, notify: Notify, code: StatusCode) -> bool {
         current: tenths(1250),
         watts: 50_000,
     };
-    reply_to(&charging, &asking, &plan, &demand, 50_000).tell == told
-        && order_of(&charging, &asking, &plan, &demand, 50_000) == Some(limits)
-        && stage_behind(charging, &asking, &plan, &demand, 50_000).told == 50_000
+    let judged = judge(&charging, &asking, &plan, &demand);
+    reply_to(&charging, &asking, &plan, &demand, judged, 50_000).tell == told
+        && order_of(&charging, &asking, &plan, &demand, judged, 50_000) == Some(limits)
+        && stage_behind(charging, &asking, &plan, &demand, judged, 50_000).told == 50_000
 }
 
 /// The one tuple of a schedule, where these watts are any.
@@ -701,12 +706,13 @@ fn is_shown(shown: u32, row: Phase, processing: Processing) -> bool {
     };
     let facts = facts(None);
     let authorized = stage(Phase::Authorized, None);
+    let judged = judge(&authorized, &facts, &plan, &ask);
     if asks(&plan, &ask.ask) != Some(40_000)
-        || reply_to(&authorized, &facts, &plan, &ask, shown).tell != told
+        || reply_to(&authorized, &facts, &plan, &ask, judged, shown).tell != told
     {
         return false;
     }
-    let behind = stage_behind(authorized, &facts, &plan, &ask, shown);
+    let behind = stage_behind(authorized, &facts, &plan, &ask, judged, shown);
     behind.row == row && behind.told == shown
 }
 

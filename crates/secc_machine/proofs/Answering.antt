@@ -13,7 +13,7 @@ use Rattle.session_rules.specs.Moves.{stage_behind}
 use Rattle.session_rules.specs.Orders.{order_of}
 use Rattle.session_rules.specs.Reply.{reply_to}
 use Rattle.session_rules.specs.Stages.{is_waiting}
-use Rattle.secc_setup.specs.Ends.{end_of, reply_at_once}
+use Rattle.secc_rows.specs.Ends.{end_of, reply_at_once}
 use Rattle.post_spec.specs.Codecs.{Judged, Asked, Negotiated, WrongSide, Refused}
 use Rattle.station_spec.specs.States.{Spoken, Said, Agenda, Session, State, Wording, nothing}
 use Rattle.station_spec.specs.Judging.{order_by, asked_agenda, asked_session, taken_in, shows, asked_behind, IsShown}

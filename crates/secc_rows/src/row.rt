@@ -1,18 +1,17 @@
 //! The row of a session.
 
 ghost use Rattle.std.specs.Prelude.{◌≡◌};
-ghost use Rattle.charge_world.specs.declared.offer.Dialect.TheVariants.{Iso};
 ghost use Rattle.session_words.specs.declared.phase.Phase.TheVariants as row;
 ghost use Rattle.session_rules.specs.Reply.{waiting_reply as reply_that_waited};
 ghost use Rattle.session_rules.specs.Stages.{first_stage, negotiated, confirmed};
-ghost use Rattle.secc_setup.specs.Places.{place_of};
-ghost use Rattle.secc_setup.specs.Stages.{named_stage};
+ghost use Rattle.secc_rows.specs.Rows.{place_of};
 
+use crate::carried::{Carried, Place};
 use crate::kind::Kind;
+use crate::setup::Connected;
 use charge_world::Dialect;
-use secc_setup::{Negotiated, Place};
 use session_rules::{Stage, is_waiting, waiting_reply};
-use session_words::{Facts, PostPlan, Reply, SessionId};
+use session_words::{Facts, PostPlan, Reply};
 use std::marker::Model;
 
 /// The row of a session, with what the session keeps there. Contracts see the stage of the session.
@@ -36,24 +35,30 @@ impl Row {
         ensures { result ≡ first_stage token }
     {
         Row {
-            kind: Kind::Connected(SessionId::of_token(token)),
+            kind: Kind::Connected(Connected {
+                carried: Carried::of(Stage::new(token)),
+            }),
         }
     }
 
-    /// Where the session is. A connection keeps nothing but its name.
-    #[tactic(auto, using(crate::proofs::Rows::first_is))]
+    /// Where the session is.
     pub fn place(&self) -> Place
-        ensures value { result ≡ place_of self.now }
-        ensures first { result.row ≡ row.Connected → self.now ≡ named_stage row.Connected Iso self.now.session }
+        ensures { result ≡ place_of self.now }
     {
-        self.kind.place()
+        let (row, carried) = self.kind.parts();
+        Place {
+            row,
+            dialect: carried.dialect,
+            told: carried.told,
+        }
     }
 
     /// The stage of the session.
     pub fn stage(&self) -> Stage
         ensures { result ≡ self.now }
     {
-        self.kind.stage()
+        let (row, carried) = self.kind.parts();
+        carried.stage(row)
     }
 
     /// The reply to PowerDelivery that waited, with the facts of the moment in which the feedback confirmed the order.
@@ -68,10 +73,11 @@ impl Row {
         requires { self.row ≡ row.Connected }
         ensures { result ≡ negotiated self dialect }
     {
-        let _place = self.place();
-        let session = self.stage().session;
-        Row {
-            kind: Kind::Negotiated(Negotiated::enter(dialect, session)),
+        match self.kind {
+            Kind::Connected(row) => Row {
+                kind: Kind::Negotiated(row.negotiated(dialect)),
+            },
+            kind => Row { kind },
         }
     }
 
@@ -79,7 +85,7 @@ impl Row {
     pub fn confirmed(self) -> Row
         ensures { result ≡ confirmed self }
     {
-        if !is_waiting(self.kind.place().row) {
+        if !is_waiting(self.place().row) {
             return self;
         }
         let kind = match self.kind {

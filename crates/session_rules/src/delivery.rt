@@ -40,15 +40,10 @@ fn contactor_code(dialect: Dialect) -> Code
 }
 
 /// How far the outlet was from the target of the last pre-charge, in tenths of a volt.
-fn off_of(last: PreCharged) -> u32
+pub fn off_of(last: PreCharged) -> u32
     ensures { result ≡ rule.off_of last }
 {
-    let voltage = u32::from(last.voltage.get());
-    if last.target < voltage {
-        voltage - last.target
-    } else {
-        last.target - voltage
-    }
+    u32::from(last.voltage.get()).abs_diff(last.target)
 }
 
 /// Whether, in DC, the last pre-charge came within 20.0 V of its target.

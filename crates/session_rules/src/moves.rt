@@ -2,14 +2,15 @@
 
 ghost use Rattle.std.specs.Prelude.{◌≡◌};
 ghost use Rattle.session_rules.specs.Moves as rule;
+ghost use Rattle.session_rules.specs.Verdict.{verdict};
 
 use crate::asking::shows_watts;
 use crate::finishing::{is_ac, is_finished};
 use crate::offers::p_max_of;
 use crate::rows::leads;
 use crate::stage::{PreCharged, Stage};
-use crate::verdict::{is_accepted, joins, judge};
-use session_words::{Ask, Facts, Phase, PostPlan, Progress, Request, SessionId};
+use crate::verdict::{is_accepted, joins};
+use session_words::{Ask, Code, Facts, Phase, PostPlan, Progress, Request, SessionId};
 
 /// The row behind this request, where it is accepted.
 pub fn next_row(stage: &Stage, facts: &Facts, plan: &PostPlan, ask: &Ask, shown: u32) -> Phase
@@ -81,28 +82,37 @@ pub(crate) fn moved(
     }
 }
 
-/// The stage behind a request, where these watts are shown. One that isn't accepted leaves it.
+/// The stage behind a request that was judged so, where these watts are shown. One that isn't accepted leaves it.
 pub fn stage_behind(
     stage: Stage,
     facts: &Facts,
     plan: &PostPlan,
     request: &Request,
+    code: Code,
     shown: u32,
 ) -> Stage
+    requires { code ≡ verdict stage facts.now plan.now request.now }
     ensures { result ≡ rule.stage_behind stage facts.now plan.now request.now shown }
 {
-    if is_accepted(judge(&stage, facts, plan, request)) {
+    if is_accepted(code) {
         moved(&stage, facts, plan, request, shown)
     } else {
         stage
     }
 }
 
-/// The facts behind a request. One that isn't accepted leaves them.
-pub fn facts_behind(facts: Facts, stage: &Stage, plan: &PostPlan, request: &Request) -> Facts
+/// The facts behind a request that was judged so. One that isn't accepted leaves them.
+pub fn facts_behind(
+    facts: Facts,
+    stage: &Stage,
+    plan: &PostPlan,
+    request: &Request,
+    code: Code,
+) -> Facts
+    requires { code ≡ verdict stage.now facts plan.now request.now }
     ensures { result ≡ rule.facts_behind stage.now facts plan.now request.now }
 {
-    if !is_accepted(judge(stage, &facts, plan, request)) {
+    if !is_accepted(code) {
         return facts;
     }
     match request.ask {

@@ -60,7 +60,7 @@ fn spelled_watts(watts: u32) -> u32
 }
 
 /// The watts that the PMax of a schedule spells where these are shown.
-pub(crate) fn p_max_of(dialect: Dialect, watts: u32) -> u32
+pub fn p_max_of(dialect: Dialect, watts: u32) -> u32
     ensures { result ≡ rule.p_max_of dialect watts }
 {
     match dialect {

@@ -4,12 +4,13 @@ ghost use Rattle.std.specs.Prelude.{◌≡◌, ◌≤◌, min};
 ghost use Rattle.charge_world.specs.declared.ports.Order.TheVariants as order;
 ghost use Rattle.session_words.specs.Plans.{IsPostPlan};
 ghost use Rattle.session_rules.specs.Orders as rule;
+ghost use Rattle.session_rules.specs.Verdict.{verdict};
 
 use crate::offers::ac_current_at;
 use crate::stage::Stage;
-use crate::verdict::{is_accepted, judge};
+use crate::verdict::is_accepted;
 use charge_world::{Order, Tenths};
-use session_words::{Amount, Ask, Facts, PostPlan, Progress, Request};
+use session_words::{Amount, Ask, Code, Facts, PostPlan, Progress, Request};
 
 /// The order of an accepted PowerDelivery.
 fn delivery_order(progress: Progress) -> Order
@@ -44,18 +45,20 @@ fn pre_charge_order(plan: &PostPlan, told: u32, voltage: Amount, current: Amount
     }
 }
 
-/// The order that an accepted request gives before its reply, where these watts are shown.
+/// The order that a request which was judged so gives before its reply, where these watts are shown.
 pub fn order_of(
     stage: &Stage,
     facts: &Facts,
     plan: &PostPlan,
     request: &Request,
+    code: Code,
     shown: u32,
 ) -> Option<Order>
-    requires { IsPostPlan plan.now }
+    requires plan { IsPostPlan plan.now }
+    requires judged { code ≡ verdict stage.now facts.now plan.now request.now }
     ensures { result ≡ rule.order_of stage.now facts.now plan.now request.now shown }
 {
-    if !is_accepted(judge(stage, facts, plan, request)) {
+    if !is_accepted(code) {
         return None;
     }
     match &request.ask {

@@ -3,7 +3,7 @@
 ghost use Rattle.std.specs.Prelude.{◌≡◌, if◌then◌else◌, [], ◌∷◌};
 ghost use Rattle.session_words.specs.Modes.{offered_of};
 ghost use Rattle.session_words.specs.Plans.{IsPostPlan};
-ghost use Rattle.session_rules.specs.Verdict.{is_accepted as accepted_by};
+ghost use Rattle.session_rules.specs.Verdict.{verdict, is_accepted as accepted_by};
 ghost use Rattle.session_rules.specs.Reply as rule;
 
 use crate::finishing::{is_ac, is_finished};
@@ -11,7 +11,7 @@ use crate::moves::moved;
 use crate::offers::{ac_current_at, amount, amount_of, evse_of, limits_of, schedule_of};
 use crate::stage::Stage;
 use crate::status::{dc_status, notify_of, post_status};
-use crate::verdict::{is_accepted, judge};
+use crate::verdict::is_accepted;
 use arrayvec::ArrayVec;
 use charge_world::Dialect;
 use session_words::{
@@ -190,19 +190,20 @@ fn tell_of(stage: &Stage, facts: &Facts, plan: &PostPlan, code: Code, shown: u32
     }
 }
 
-/// The reply to a request, where these watts are shown. That to an accepted PowerDelivery Start waits for the contactor's
-/// feedback: `waiting_reply` gives it then.
+/// The reply to a request that was judged so, where these watts are shown. That to an accepted PowerDelivery Start waits
+/// for the contactor's feedback: `waiting_reply` gives it then.
 pub fn reply_to(
     stage: &Stage,
     facts: &Facts,
     plan: &PostPlan,
     request: &Request,
+    code: Code,
     shown: u32,
 ) -> Reply
-    requires { IsPostPlan plan.now }
+    requires plan { IsPostPlan plan.now }
+    requires judged { code ≡ verdict stage.now facts.now plan.now request.now }
     ensures { result ≡ rule.reply_to stage.now facts.now plan.now request.now shown }
 {
-    let code = judge(stage, facts, plan, request);
     let session = if is_accepted(code) {
         moved(stage, facts, plan, request, shown).identifier()
     } else {

@@ -1,3 +1,0 @@
-pub mod Charging
-pub mod Closing
-pub mod Nexts
