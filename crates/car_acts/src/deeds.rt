@@ -17,7 +17,7 @@ use session_words::EndCause;
 
 /// How a car's act is done, with the car's room.
 #[derive(Drop)]
-pub(crate) enum Deed {
+pub enum Deed {
     /// This port is dialed.
     Dial(u16),
     /// This order is given.
@@ -32,7 +32,7 @@ pub(crate) enum Deed {
 
 impl Deed {
     /// The call by which this is done. The bytes that are sent are the first of the room.
-    pub(crate) fn call<'a>(&'a self, room: &'a [u8]) -> Call<'a>
+    pub fn call<'a>(&'a self, room: &'a [u8]) -> Call<'a>
         requires room { length room.now ≡ 1032 }
         requires framed { IsFramed self.now }
         ensures entry { (spoken : Spoken) (taken : Bool) → entry_by 1 result taken ≡ entry_of (act_of room.now spoken self.now) taken }
@@ -75,7 +75,7 @@ fn note(driver: &mut Driver, deed: &Deed)
 }
 
 /// The car keeps that this was done, and taken or not.
-pub(crate) fn keep(driver: &mut Driver, deed: &Deed, taken: bool)
+pub fn keep(driver: &mut Driver, deed: &Deed, taken: bool)
     requires { is_seek deed.now ≡ true → driver.old.car.agenda.seeks ≡ true }
     ensures car { (room : List ℕ) (spoken : Spoken) → driver.new.car ≡ acted (act_of room spoken deed.now) taken driver.old.car }
     ensures report { driver.new.report ≡ noted_by deed.now driver.old.car driver.old.report }

@@ -13,4 +13,7 @@ mod preparing;
 mod reading;
 
 pub use acting::step;
+pub use deeds::{Deed, keep};
 pub use driver::{CarReport, Driver};
+pub use preparing::prepare;
+pub use reading::judge;

@@ -65,7 +65,7 @@ fn speak<C: CarCodec>(codec: &mut C, plan: &CarPlan, spoken: &Spoken, room: &mut
 }
 
 /// How what a car does first is done, if there is something to do.
-pub(crate) fn prepare<C: CarCodec>(
+pub fn prepare<C: CarCodec>(
     codec: &mut C,
     plan: &CarPlan,
     car: &Car,

@@ -14,7 +14,7 @@ use evcc_machine::{Car, Judged};
 use session_words::CarPlan;
 
 /// What the payload is judged as that a car wants read now, if it wants one.
-fn judge<C: CarCodec>(codec: &mut C, plan: &CarPlan, car: &Car) -> Option<Judged>
+pub fn judge<C: CarCodec>(codec: &mut C, plan: &CarPlan, car: &Car) -> Option<Judged>
     requires { IsPlan plan.now }
     ensures { JudgesFor (codecs C.offers C.responds C.reads C.encodes) plan.now.dialects.items (wanted car.now) (option_map judged_of result) }
 {

@@ -89,6 +89,21 @@ impl Car {
         })
     }
 
+    /// The car is as one that heard nothing yet, in the memory that it has.
+    pub fn renew(&mut self)
+        ensures { self.new ≡ fresh }
+    {
+        self.slot.close();
+        self.clock = 0;
+        self.live = false;
+        self.search = Search::new();
+        self.event = CarEvent::Clock;
+        self.stood = false;
+        self.part = Part::Unheard;
+        self.agenda = Agenda::nothing();
+        self.over = false;
+    }
+
     /// What is done first of what was decided.
     pub fn first(&self) -> Option<Todo<'_>>
         ensures { option_map todo_of result ≡ first self.now.agenda }

@@ -13,7 +13,7 @@ use site_codec::Codec;
 use site_posts::{Place, fill};
 
 /// What post i does next, and how it is done; the post has decided it and read the word that it wanted.
-pub(crate) fn next_deed<C: Codec>(
+pub fn next_deed<C: Codec>(
     codec: &mut C,
     places: &mut [Place],
     i: usize,

@@ -14,7 +14,7 @@ use site_posts::Place;
 
 /// How a post's act is done, with the site's room.
 #[derive(Drop)]
-pub(crate) enum Deed {
+pub enum Deed {
     /// This datagram is sent.
     Answer([u8; 28]),
     /// This order is given.
@@ -27,7 +27,7 @@ pub(crate) enum Deed {
 
 impl Deed {
     /// The call by which this is done. The bytes that are sent are the first of the room.
-    pub(crate) fn call<'a>(&'a self, room: &'a [u8]) -> Call<'a>
+    pub fn call<'a>(&'a self, room: &'a [u8]) -> Call<'a>
         requires room { length room.now ≡ 1032 }
         requires framed { IsFramed self.now }
         ensures entry { (k : ℕ) (taken : Bool) → entry_by k result taken ≡ entry_of k (act_of room.now self.now) taken }
@@ -44,7 +44,7 @@ impl Deed {
 }
 
 /// The post keeps that this was done, and taken or not.
-pub(crate) fn keep(place: &mut Place, deed: &Deed, taken: bool)
+pub fn keep(place: &mut Place, deed: &Deed, taken: bool)
     requires { MayTake deed.now taken }
     ensures { (room : List ℕ) → place.new ≡ done_place (act_of room deed.now) taken place.old }
 {

@@ -10,3 +10,5 @@ mod deeds;
 mod preparing;
 
 pub use acting::act;
+pub use choosing::next_deed;
+pub use deeds::{Deed, keep};
