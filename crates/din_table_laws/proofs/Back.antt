@@ -5,6 +5,7 @@ use Rattle.std.specs.List.{range_with_len}
 use Rattle.std.specs.Option.{option_map}
 use Rattle.std.proofs.lemmas.Grind.{common_steps}
 use Rattle.std.proofs.lemmas.List.{length-map}
+use Rattle.std.proofs.lemmas.List.Elements.{All-head}
 use Rattle.std.proofs.lemmas.List.FromFn.{length-map-range_with_len}
 use Rattle.arrayvec.specs.ArrayVec.{ArrayVec}
 use Rattle.charge_world.specs.declared.heard.IsolationLevel.{IsolationLevel}
@@ -15,34 +16,32 @@ use Rattle.session_words.specs.declared.amount.Amount.{Amount}
 use Rattle.session_words.specs.declared.code.Code.{Code}
 use Rattle.session_words.specs.declared.code.Code.TheVariants as code
 use Rattle.session_words.specs.declared.code.Notify.{Notify}
-use Rattle.session_words.specs.declared.code.Notify.TheVariants as notify
 use Rattle.session_words.specs.declared.code.Processing.{Processing}
 use Rattle.session_words.specs.declared.code.Processing.TheVariants as processing
 use Rattle.session_words.specs.declared.code.Progress.{Progress}
 use Rattle.session_words.specs.declared.code.Progress.TheVariants as progress
 use Rattle.session_words.specs.declared.code.StatusCode.{StatusCode}
-use Rattle.session_words.specs.declared.code.StatusCode.TheVariants as status
 use Rattle.session_words.specs.declared.limits.DcStatus.{DcStatus}
 use Rattle.session_words.specs.declared.limits.PostLimits.{PostLimits}
 use Rattle.session_words.specs.declared.limits.PostLimits.TheVariants as limits
 use Rattle.session_words.specs.declared.limits.Tuple.{Tuple}
-use Rattle.session_words.specs.declared.mode.Mode.{Mode}
-use Rattle.session_words.specs.declared.mode.Mode.TheVariants as mode
 use Rattle.session_words.specs.declared.mode.OfferedMode.{OfferedMode}
 use Rattle.session_words.specs.declared.mode.OfferedMode.TheVariants as offered
 use Rattle.tree_words.proofs.Lists.{◌⊛◌}
-use Rattle.written_parts.proofs.Items.{head, tail}
 use Rattle.written_words.proofs.Numbers.{tenths_back, watts_back}
 use Rattle.din_values.specs.Codes.{is_din_code}
 use Rattle.din_values.specs.Modes.{is_din_mode}
 use Rattle.din_values.specs.States.{is_din_level, is_din_processing}
 use Rattle.din_word_messages.specs.Spellable.{AreTenths, AreFewWatts, IsDinProgress, CanStatus, CanTuple, CanTuples, CanPostLimits}
 use Rattle.word_tables.specs.Tables.{back}
-use Rattle.din_tables.specs.Codes.{isolation, notification, status_code, response_code, step, wanted_mode, offered_mode, external}
+use Rattle.message_tables.specs.Values.{entries_of, least_of}
+use Rattle.message_tables.proofs.Lists.{if_back, if_same, each_same}
+use Rattle.message_tables.proofs.Numbers.{notify_named, status_named}
+use Rattle.din_tables.specs.Codes.{isolation, notification, status_code, response_code, step, offered_mode}
 use Rattle.din_tables.specs.Values.{is_right, unit_if, current, voltage, power, post_status}
-use Rattle.din_tables.specs.Setup.{first_mode, service}
+use Rattle.din_tables.specs.Setup.{first_mode}
 use Rattle.din_tables.specs.Power.{Profile, profile, progress_of, is_start}
-use Rattle.din_tables.specs.Parameters.{schedule_entry, least_of, entries_of, tuple, schedules, post_parameters, limits_of}
+use Rattle.din_tables.specs.Parameters.{schedule_entry, tuple, schedules, post_parameters, limits_of}
 
 abbrev amount : ℕ → Bool → Amount
 amount size right = record { size = size; right = right }
@@ -63,32 +62,18 @@ voltage_back a h = ap₂ amount (tenths_back a.size h) (right_back a.right).1
 pub power_back : (a : Amount) → back power a ≡ dropped a
 power_back a = ap₂ amount (watts_back a.size) (right_back a.right).2
 
--- where there is one
-pub if_back : {X : Type 0} (P : X → Type 0) (f : X → X) → ((x : X) → P x → f x ≡ x) → (o : Option X) → IfSome o P → option_map f o ≡ o
-if_back P f same None h = refl
-if_back P f same (Some x) h = ap (λ y. Some y) (same x h)
-
 pub powers_back : (o : Option Amount) → option_map (λ a. back power a) o ≡ option_map dropped o
-powers_back None = refl
-powers_back (Some a) = ap (λ y. Some y) (power_back a)
+powers_back = if_same (λ a. back power a) dropped power_back
 
 level_back : (l : IsolationLevel) → IsTrue (is_din_level l) → back isolation l ≡ l
 level_back level.NoImd h = absurd cc
 level_back other h = refl
 
-notify_back : (n : Notify) → back notification n ≡ n
-notify_back notify.None = refl
-notify_back other = refl
-
-status_code_back : (c : StatusCode) → back status_code c ≡ c
-status_code_back status.EvseNotReady = refl
-status_code_back other = refl
-
 pub status_back : (s : DcStatus) → CanStatus s → back post_status s ≡ s
 status_back s h =
     let made : Option IsolationLevel → StatusCode → Notify → DcStatus = λ i c n. record { isolation = i; code = c; notify = n } in
     ap (λ i. made i (back status_code s.code) (back notification s.notify)) (if_back (λ l. IsTrue (is_din_level l)) (λ l. back isolation l) level_back s.isolation h)
-    ∙ ap₂ (λ c n. made s.isolation c n) (status_code_back s.code) (notify_back s.notify)
+    ∙ ap₂ (λ c n. made s.isolation c n) (status_named s.code) (notify_named s.notify)
 
 pub code_back : (c : Code) → IsTrue (is_din_code c) → back response_code c ≡ c
 code_back code.FailedNoChargeServiceSelected h = absurd cc
@@ -102,10 +87,6 @@ pub step_back : (p : Processing) → IsTrue (is_din_processing p) → back step 
 step_back processing.OngoingWaitingForCustomerInteraction h = absurd cc
 step_back other h = refl
 
-pub mode_back : (m : Mode) → back wanted_mode m ≡ m
-mode_back mode.DcCore = refl
-mode_back other = refl
-
 offered_back : (m : OfferedMode) → IsTrue (is_din_mode m) → back offered_mode m ≡ m
 offered_back offered.DcUnique h = absurd cc
 offered_back other h = refl
@@ -113,16 +94,8 @@ offered_back other h = refl
 -- of one mode alone
 pub modes_back : (ms : List OfferedMode) → length ms ≡ 1 → All (λ m. IsTrue (is_din_mode m)) ms → back offered_mode (first_mode ms) ∷ [] ≡ ms
 modes_back [] h all = absurd (omega arith)
-modes_back (m ∷ []) h all = ap (λ x. x ∷ []) (offered_back m (head (λ m. IsTrue (is_din_mode m)) m [] all))
+modes_back (m ∷ []) h all = ap (λ x. x ∷ []) (offered_back m (All-head (λ m. IsTrue (is_din_mode m)) m [] all))
 modes_back (m ∷ n ∷ ms) h all = absurd (omega arith)
-
-pub external_back : (b : Bool) → back external b ≡ b
-external_back true = refl
-external_back false = refl
-
-pub services_back : (ns : List ℕ) → map (λ n. back service n) ns ≡ ns
-services_back [] = refl
-services_back (n ∷ ns) = ap (λ ms. n ∷ ms) (services_back ns)
 
 pub progress_back : (p : Progress) → IsDinProgress p → progress_of (is_start p) ≡ p
 progress_back progress.Start h = refl
@@ -164,17 +137,13 @@ tuple_back t h =
     (least_back t.least t.entries h.entries.0 ∙ few_size t.least.size h.least.few)
     ∙ ap (λ r. made t.entries (spelled_watts t.least.size) r) (sym h.least.right)
 
-tuples_back : (ts : List Tuple) → All CanTuple ts → map (λ t. back tuple t) ts ≡ map dropped_tuple ts
-tuples_back [] h = refl
-tuples_back (t ∷ ts) h = ap₂ (λ x xs. x ∷ xs) (tuple_back t (head CanTuple t ts h)) (tuples_back ts (tail CanTuple t ts h))
-
 abbrev vec : List Tuple → ArrayVec Tuple
 vec ts = record { items = ts }
 
 pub schedules_back : (o : Option (ArrayVec Tuple)) → IfSome o CanTuples
     → option_map vec (option_map (λ ts. back schedules ts) (option_map (λ v. v.items) o)) ≡ option_map dropped_tuples o
 schedules_back None h = refl
-schedules_back (Some v) h = ap (λ ts. Some (vec ts)) (tuples_back v.items h.1)
+schedules_back (Some v) h = ap (λ ts. Some (vec ts)) (each_same CanTuple (λ t. back tuple t) dropped_tuple tuple_back v.items h.1)
 
 -- ---- limits of a post
 

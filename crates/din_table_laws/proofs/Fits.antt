@@ -1,10 +1,9 @@
 -- What is written for words fits what DIN SPEC 70121:2014 declares, and is short.
-use Rattle.std.proofs.Common.{◌≡◌, ℕ, zero, suc, ◌+◌, ◌<◌, ◌≤◌, map, length, All, Bool, true, false, ℤ, pos, List, [], ◌∷◌, Option, Some, None, refl, arith, lit<, lit≤}
+use Rattle.std.proofs.Common.{◌≡◌, ℕ, zero, suc, ◌+◌, ◌<◌, ◌≤◌, map, length, Bool, true, false, ℤ, pos, Option, Some, None, refl, arith, lit<, lit≤}
 use Rattle.std.specs.Prelude.{IfSome}
 use Rattle.std.specs.List.{AllByRecursion, range_with_len}
 use Rattle.std.specs.Option.{option_map}
 use Rattle.std.proofs.lemmas.Int.{ints}
-use Rattle.std.proofs.lemmas.List.Elements.{All-weaker}
 use Rattle.std.proofs.lemmas.List.FromFn.{length-map-range_with_len}
 use Rattle.arrayvec.specs.ArrayVec.{ArrayVec}
 use Rattle.exi_documents.specs.Trees.{Number}
@@ -16,20 +15,14 @@ use Rattle.charge_world.specs.declared.heard.IsolationLevel.TheVariants as level
 use Rattle.session_words.specs.declared.amount.Amount.{Amount}
 use Rattle.session_words.specs.declared.code.Code.{Code}
 use Rattle.session_words.specs.declared.code.Code.TheVariants as code
-use Rattle.session_words.specs.declared.code.Notify.{Notify}
-use Rattle.session_words.specs.declared.code.Notify.TheVariants as notify
 use Rattle.session_words.specs.declared.code.Processing.{Processing}
 use Rattle.session_words.specs.declared.code.Processing.TheVariants as processing
-use Rattle.session_words.specs.declared.code.StatusCode.{StatusCode}
-use Rattle.session_words.specs.declared.code.StatusCode.TheVariants as status
 use Rattle.session_words.specs.declared.limits.CarLimits.TheVariants as car
 use Rattle.session_words.specs.declared.limits.DcStatus.{DcStatus}
 use Rattle.session_words.specs.declared.limits.EvseId.TheVariants as evse
 use Rattle.session_words.specs.declared.limits.PostLimits.TheVariants as limits
 use Rattle.session_words.specs.declared.limits.PostStatus.TheVariants as post
 use Rattle.session_words.specs.declared.limits.Tuple.{Tuple}
-use Rattle.session_words.specs.declared.mode.Mode.{Mode}
-use Rattle.session_words.specs.declared.mode.Mode.TheVariants as mode
 use Rattle.session_words.specs.declared.mode.OfferedMode.{OfferedMode}
 use Rattle.session_words.specs.declared.mode.OfferedMode.TheVariants as offered
 use Rattle.session_words.specs.declared.session.SessionId.{SessionId}
@@ -41,27 +34,30 @@ use Rattle.session_words.specs.declared.word.Word.{Word}
 use Rattle.session_words.specs.declared.word.Word.TheVariants as word
 use Rattle.word_values.specs.declared.amounts.Written.{Written}
 use Rattle.word_values.specs.Amounts.{written_tenths, written_watts}
-use Rattle.written_parts.proofs.Items.{head, tail, bytes_fit}
+use Rattle.written_parts.proofs.Items.{bytes_fit}
 use Rattle.written_parts.proofs.Numbers.{IsPhysical, tenths_fit, watts_fit, value_few}
 use Rattle.din_schema.specs.Declarations.{kinds}
-use Rattle.din_schema.specs.declared.kinds.TheConstants.{V2G_MESSAGE_KIND}
-use Rattle.din_schema.specs.declared.names.TheConstants.{SESSION_SETUP_REQ, SESSION_SETUP_RES, SERVICE_DISCOVERY_REQ, SERVICE_DISCOVERY_RES, SERVICE_PAYMENT_SELECTION_REQ, SERVICE_PAYMENT_SELECTION_RES, CONTRACT_AUTHENTICATION_REQ, CONTRACT_AUTHENTICATION_RES, CHARGE_PARAMETER_DISCOVERY_REQ, CHARGE_PARAMETER_DISCOVERY_RES, CABLE_CHECK_REQ, CABLE_CHECK_RES, PRE_CHARGE_REQ, PRE_CHARGE_RES, POWER_DELIVERY_REQ, POWER_DELIVERY_RES, CURRENT_DEMAND_REQ, CURRENT_DEMAND_RES, WELDING_DETECTION_REQ, WELDING_DETECTION_RES, SESSION_STOP_REQ, SESSION_STOP_RES}
-use Rattle.fitting_parts.specs.Fitting.{HoldsTrees}
-use Rattle.document_sizes.specs.Sizes.{inside_weight}
-use Rattle.din_word_messages.specs.Spellable.{AreTenths, AreWatts, IsService, IsCharge, CanProfile, CanTuple, CanTuples, CanAsk, CanTell, CanSession, CanSpell}
-use Rattle.written_sizes.specs.Entries.{HasEntries}
+use Rattle.din_schema.specs.declared.kinds.TheConstants.{V2G_MESSAGE_KIND, BINARY8_KIND}
+use Rattle.din_schema.specs.declared.names.TheConstants.{SESSION_SETUP_REQ, SESSION_SETUP_RES, SERVICE_DISCOVERY_REQ, SERVICE_DISCOVERY_RES, SERVICE_PAYMENT_SELECTION_REQ, SERVICE_PAYMENT_SELECTION_RES, CONTRACT_AUTHENTICATION_REQ, CONTRACT_AUTHENTICATION_RES, CHARGE_PARAMETER_DISCOVERY_REQ, CHARGE_PARAMETER_DISCOVERY_RES, CABLE_CHECK_REQ, CABLE_CHECK_RES, PRE_CHARGE_REQ, PRE_CHARGE_RES, POWER_DELIVERY_REQ, POWER_DELIVERY_RES, CURRENT_DEMAND_REQ, CURRENT_DEMAND_RES, WELDING_DETECTION_REQ, WELDING_DETECTION_RES, SESSION_STOP_REQ, SESSION_STOP_RES, SELECTED_SERVICE, SA_SCHEDULE_TUPLE}
+use Rattle.din_word_messages.specs.Spellable.{AreTenths, AreWatts, IsService, IsCharge, CanProfile, CanTuple, CanAsk, CanTell, CanSession, CanSpell}
+use Rattle.written_sizes.specs.Entries.{HasEntries, IsBrief}
 use Rattle.word_tables.specs.Tables.{Table, rows, nothing, written}
 use Rattle.word_tables.specs.Fitting.{CanWrite, fits, bits}
-use Rattle.word_tables.proofs.Fitting.{table_holds}
-use Rattle.word_tables.proofs.Sizes.{table_small}
-use Rattle.din_tables.specs.Codes.{isolation, level_number, notify_number, status_number, code_number, processing_number, mode_number, offered_number, payment_number}
+use Rattle.message_tables.specs.Values.{some_bytes, entries_of, list_of}
+use Rattle.message_tables.specs.Frame.{message, framed}
+use Rattle.message_tables.specs.Spellable.{AreServices}
+use Rattle.message_tables.proofs.Frames as frames
+use Rattle.message_tables.proofs.Frames.{IsGood, few_bits, asked_bits, told_bits, most_bits, asked_few}
+use Rattle.message_tables.proofs.Lists.{if_fits, each_fits}
+use Rattle.message_tables.proofs.Numbers.{notify_small, status_small, mode_small, second_small}
+use Rattle.message_tables.proofs.Schedules.{HasUpTo, HaveUpTo, declared_few, schedules_fit}
+use Rattle.din_tables.specs.Codes.{isolation, level_number, code_number, processing_number, offered_number}
 use Rattle.din_tables.specs.Values.{unit_if, spelled, physical, current, voltage, power, car_status, post_status}
-use Rattle.din_tables.specs.Frame.{message, framed}
+use Rattle.din_tables.specs.Frame.{frame}
 use Rattle.din_tables.specs.Setup.{code_alone, setup_req, setup_res, discovery_res, first_mode, selection_req, service, authorization_res}
 use Rattle.din_tables.specs.Power.{car_alone, present_voltage, cable_check_res, pre_charge_req, profile, delivery_req, is_start, profile_if, delivery_res, demand_req, demand_res}
-use Rattle.din_tables.specs.Parameters.{parameters_req, schedule_entry, entries_of, tuple_up_to, schedules_up_to, parameters_res_up_to}
+use Rattle.din_tables.specs.Parameters.{parameters_req, schedule_entry, tuple_up_to, parameters_res_up_to}
 use Rattle.din_tables.specs.Words.{in_ask, in_tell, in_word}
-use Rattle.din_table_laws.specs.Laws.{IsBrief}
 
 -- ---- amounts
 
@@ -81,10 +77,6 @@ voltage_fits a h = spelled_fits (written_tenths a.size) a.right (tenths_fit a.si
 power_fits : (a : Amount) → AreWatts a → CanWrite kinds power a
 power_fits a h = spelled_fits (written_watts a.size) a.right (watts_fit a.size h)
 
-if_fits : {X : Type 0} (P Q : X → Type 0) → ((x : X) → P x → Q x) → (o : Option X) → IfSome o P → IfSome o Q
-if_fits P Q gives None h = tt
-if_fits P Q gives (Some x) h = gives x h
-
 powers_fit : (o : Option Amount) → IfSome o AreWatts → IfSome o (λ a. CanWrite kinds power a)
 powers_fit o h = if_fits AreWatts (λ a. CanWrite kinds power a) power_fits o h
 
@@ -94,14 +86,6 @@ level_small : (l : IsolationLevel) → level_number l < 4
 level_small level.Invalid = lit< tt
 level_small other = lit< tt
 
-notify_small : (n : Notify) → notify_number n < 3
-notify_small notify.None = lit< tt
-notify_small other = lit< tt
-
-status_small : (c : StatusCode) → status_number c < 12
-status_small status.EvseReady = lit< tt
-status_small other = lit< tt
-
 code_small : (c : Code) → code_number c < 23
 code_small code.Ok = lit< tt
 code_small other = lit< tt
@@ -110,17 +94,9 @@ step_small : (p : Processing) → processing_number p < 2
 step_small processing.Finished = lit< tt
 step_small other = lit< tt
 
-mode_small : (m : Mode) → mode_number m < 6
-mode_small mode.DcCore = lit< tt
-mode_small other = lit< tt
-
 offered_small : (m : OfferedMode) → offered_number m < 10
 offered_small offered.DcCore = lit< tt
 offered_small other = lit< tt
-
-payment_small : (external : Bool) → payment_number external < 2
-payment_small true = lit< tt
-payment_small false = lit< tt
 
 -- ---- statuses
 
@@ -139,9 +115,13 @@ status_fits s = (levels_fit s.isolation, (status_small s.code, (lit≤ tt, (noti
 
 -- ---- lists
 
-services_fit : (ns : List ℕ) → All IsService ns → AllByRecursion (λ n. CanWrite kinds service n) ns
-services_fit [] all = tt
-services_fit (n ∷ ns) all = ((head IsService n ns all, tt), services_fit ns (tail IsService n ns all))
+services_fit : (services : ArrayVec ℕ) → AreServices services → CanWrite kinds (list_of SELECTED_SERVICE 1 16 service) services.items
+services_fit services can = (
+  can.0.0,
+  can.0.1,
+  each_fits IsService (λ n. CanWrite kinds service n) (λ n h. (h, tt)) services.items can.1,
+  tt,
+)
 
 profile_fits : (id : Option ℤ) (a : Option Amount) → CanProfile id a → IfSome (profile_if id a) (λ p. CanWrite kinds profile p)
 profile_fits None None can = tt
@@ -154,9 +134,6 @@ entries_fit : (a : Amount) → a.size ≤ 32767 → (start n : ℕ) → start + 
 entries_fit a few start zero h = tt
 entries_fit a few start (suc n) h = (((omega arith, (lit≤ tt, tt)), (value_few a.size few, tt)), entries_fit a few (start + 1) n (omega arith))
 
-abbrev HasUpTo : ℕ → Tuple → Type 0
-HasUpTo most t = t.entries ≤ most
-
 tuple_fits : (most : ℕ) (t : Tuple) → CanTuple t → HasUpTo most t → CanWrite kinds (tuple_up_to most) t
 tuple_fits most t can few =
     let count : length (entries_of t) ≡ t.entries = length-map-range_with_len (λ k. ((k, tt), (t.least, tt))) 0 t.entries in
@@ -164,66 +141,31 @@ tuple_fits most t can few =
     let bound : t.entries ≤ 128 = can.entries.1 in
     (can.id, ((value_few 1 (lit≤ tt), (omega arith, omega arith, entries_fit t.least can.least.few 0 t.entries (omega arith), tt)), tt))
 
-tuples_fit : (most : ℕ) (ts : List Tuple) → All CanTuple ts → All (HasUpTo most) ts → AllByRecursion (λ t. CanWrite kinds (tuple_up_to most) t) ts
-tuples_fit most [] all few = tt
-tuples_fit most (t ∷ ts) all few = (
-  tuple_fits most t (head CanTuple t ts all) (head (HasUpTo most) t ts few),
-  tuples_fit most ts (tail CanTuple t ts all) (tail (HasUpTo most) t ts few),
-)
-
-abbrev HaveUpTo : ℕ → Option (ArrayVec Tuple) → Type 0
-HaveUpTo most o = IfSome o (λ v. All (HasUpTo most) v.items)
-
-schedules_fit : (most : ℕ) (o : Option (ArrayVec Tuple)) → IfSome o CanTuples → HaveUpTo most o
-    → IfSome (option_map (λ v. v.items) o) (λ ts. CanWrite kinds (schedules_up_to most) ts)
-schedules_fit most None can few = tt
-schedules_fit most (Some v) can few = (can.0.0, can.0.1, tuples_fit most v.items can.1 few, tt)
-
-declared_few : (o : Option (ArrayVec Tuple)) → IfSome o CanTuples → HaveUpTo 128 o
-declared_few None can = tt
-declared_few (Some v) can = All-weaker CanTuple (HasUpTo 128) (λ t own. own.entries.1) v.items can.1
-
 -- ---- messages
 
-frame_fits : {X : Type 0} (name : ℕ) (t : Table rows X) (s : SessionId) (x : X) → CanSession s → CanWrite kinds t x → CanWrite kinds (message name t) (framed s x)
-frame_fits name t s x named can = ((bytes_fit 8 s.bytes.items named.0 named.1, tt), ((can, tt), tt))
+abbrev AreGood : ℕ → Option Inside → Type 0
+AreGood most own = frames.AreGood kinds V2G_MESSAGE_KIND most own
 
--- it holds what is declared, and has so many bits at most
-pub record IsGood (most : ℕ) (own : Inside) : Type 0 where
-  pub holds : HoldsTrees kinds V2G_MESSAGE_KIND own
-  pub few : inside_weight 6 own ≤ most
+session_fits : (s : SessionId) → CanSession s → CanWrite kinds (some_bytes 8 BINARY8_KIND) s.bytes.items
+session_fits s named = bytes_fit 8 s.bytes.items named.0 named.1
 
-good : {X : Type 0} (most name : ℕ) (t : Table rows X) (s : SessionId) (x : X) → fits kinds (message name t) V2G_MESSAGE_KIND ≡ true
-    → bits 6 kinds (message name t) ≤ most → CanSession s → CanWrite kinds t x → IsGood most (written (message name t) (framed s x))
-good most name t s x fit few named can =
-    let whole = frame_fits name t s x named can in
-    let small = table_small 6 kinds (message name t) (framed s x) whole in
-    record { holds = table_holds kinds (message name t) V2G_MESSAGE_KIND (framed s x) fit whole; few = omega arith }
+good : {X : Type 0} (most name : ℕ) (t : Table rows X) (s : SessionId) (x : X) → fits kinds (message frame name t) V2G_MESSAGE_KIND ≡ true
+    → bits 6 kinds (message frame name t) ≤ most → CanSession s → CanWrite kinds t x
+    → IsGood kinds V2G_MESSAGE_KIND most (written (message frame name t) (framed s x))
+good most name t s x fit few named can = frames.good frame most name t s x fit few (session_fits s named) can
 
-abbrev pub AreGood : ℕ → Option Inside → Type 0
-AreGood most own = IfSome own (IsGood most)
+-- of messages without a profile and schedules
+abbrev pub plain_bits : ℕ
+plain_bits = 2000
 
-abbrev pub asked_bits : Ask → ℕ
-asked_bits (ask.PowerDelivery _ _ _) = 8000
-asked_bits _ = 2000
-
-abbrev pub told_bits : Tell → ℕ
-told_bits (tell.ChargeParameters _ _ _) = 160000
-told_bits _ = 2000
-
-abbrev pub most_bits : Word → ℕ
-most_bits (word.Request r) = asked_bits r.ask
-most_bits (word.Reply r) = told_bits r.tell
-most_bits word.Nothing = 0
-
-ask_good : (s : SessionId) (a : Ask) → CanSession s → CanAsk a → AreGood (asked_bits a) (in_ask s a)
+ask_good : (s : SessionId) (a : Ask) → CanSession s → CanAsk a → AreGood (asked_bits plain_bits a) (in_ask s a)
 ask_good s (ask.SessionSetup car) named can =
     good 2000 SESSION_SETUP_REQ setup_req s (car.items, tt) refl (lit≤ tt) named (bytes_fit 8 car.items can.0 can.1, tt)
 ask_good s ask.ServiceDiscovery named can = good 2000 SERVICE_DISCOVERY_REQ nothing s tt refl (lit≤ tt) named tt
 ask_good s (ask.ServiceDetail _) named can = tt
 ask_good s (ask.PaymentSelection external services) named can =
     good 2000 SERVICE_PAYMENT_SELECTION_REQ selection_req s (external, (services.items, tt)) refl (lit≤ tt) named
-    (payment_small external, ((can.0.0, can.0.1, services_fit services.items can.1, tt), tt))
+    (second_small external, (services_fit services can, tt))
 ask_good s ask.Authorization named can = good 2000 CONTRACT_AUTHENTICATION_REQ nothing s tt refl (lit≤ tt) named tt
 ask_good s (ask.ChargeParameters mode (car.Ac _ _ _)) named can = tt
 ask_good s (ask.ChargeParameters mode (car.Dc ready soc a w v)) named can =
@@ -248,8 +190,8 @@ ask_good s (ask.SessionStop pause) named can = good 2000 SESSION_STOP_REQ nothin
 -- with schedules of up to so many entries
 parameters_good : (bound most : ℕ) (s : SessionId) (c : Code) (p : Processing) (schedule : Option (ArrayVec Tuple)) (status : DcStatus)
     (a : Amount) (w : Option Amount) (v la lv ripple : Amount)
-    → fits kinds (message CHARGE_PARAMETER_DISCOVERY_RES (parameters_res_up_to most)) V2G_MESSAGE_KIND ≡ true
-    → bits 6 kinds (message CHARGE_PARAMETER_DISCOVERY_RES (parameters_res_up_to most)) ≤ bound
+    → fits kinds (message frame CHARGE_PARAMETER_DISCOVERY_RES (parameters_res_up_to most)) V2G_MESSAGE_KIND ≡ true
+    → bits 6 kinds (message frame CHARGE_PARAMETER_DISCOVERY_RES (parameters_res_up_to most)) ≤ bound
     → CanSession s → CanTell (tell.ChargeParameters p schedule (limits.Dc status a w v la lv ripple)) → HaveUpTo most schedule
     → AreGood bound (in_tell s c (tell.ChargeParameters p schedule (limits.Dc status a w v la lv ripple)))
 parameters_good bound most s c p schedule status a w v la lv ripple fit small named can few =
@@ -259,7 +201,7 @@ parameters_good bound most s c p schedule status a w v la lv ripple fit small na
       (
         step_small p,
         (
-          schedules_fit most schedule can.1 few,
+          schedules_fit CanTuple kinds SA_SCHEDULE_TUPLE most (tuple_up_to most) (tuple_fits most) schedule can.1 few,
           (
             (
               status_fits status,
@@ -280,7 +222,7 @@ parameters_good bound most s c p schedule status a w v la lv ripple fit small na
       ),
     )
 
-tell_good : (s : SessionId) (c : Code) (t : Tell) → CanSession s → CanTell t → AreGood (told_bits t) (in_tell s c t)
+tell_good : (s : SessionId) (c : Code) (t : Tell) → CanSession s → CanTell t → AreGood (told_bits plain_bits t) (in_tell s c t)
 tell_good s c (tell.SessionSetup (evse.Bytes id)) named can =
     good 2000 SESSION_SETUP_RES setup_res s (c, (id.items, tt)) refl (lit≤ tt) named (code_small c, (bytes_fit 32 id.items can.0 can.1, tt))
 tell_good s c (tell.SessionSetup (evse.Text id)) named can = tt
@@ -294,7 +236,7 @@ tell_good s c (tell.Authorization p) named can =
     good 2000 CONTRACT_AUTHENTICATION_RES authorization_res s (c, (p, tt)) refl (lit≤ tt) named (code_small c, (step_small p, tt))
 tell_good s c (tell.ChargeParameters p schedule (limits.Ac _ _ _)) named can = tt
 tell_good s c (tell.ChargeParameters p schedule (limits.Dc status a w v la lv ripple)) named can =
-    parameters_good 160000 128 s c p schedule status a w v la lv ripple refl (lit≤ tt) named can (declared_few schedule can.1)
+    parameters_good 160000 128 s c p schedule status a w v la lv ripple refl (lit≤ tt) named can (declared_few CanTuple 128 (λ t own. own.entries.1) schedule can.1)
 tell_good s c (tell.CableCheck status p) named can =
     good 2000 CABLE_CHECK_RES cable_check_res s (c, (status, (p, tt))) refl (lit≤ tt) named (code_small c, (status_fits status, (step_small p, tt)))
 tell_good s c (tell.PreCharge status v) named can =
@@ -337,19 +279,15 @@ tell_good s c (tell.WeldingDetection status v) named can =
     (code_small c, (status_fits status, (voltage_fits v can.1, tt)))
 tell_good s c tell.SessionStop named can = good 2000 SESSION_STOP_RES code_alone s (c, tt) refl (lit≤ tt) named (code_small c, tt)
 
-pub word_good : (w : Word) → CanSpell w → AreGood (most_bits w) (in_word w)
+pub word_good : (w : Word) → CanSpell w → AreGood (most_bits plain_bits w) (in_word w)
 word_good (word.Request r) can = ask_good r.session r.ask can.0 can.1
 word_good (word.Reply r) can = tell_good r.session r.code r.tell can.0 can.2
 word_good word.Nothing can = tt
 
 -- ---- with few entries
 
-abbrev pub few_bits : Option Inside → Type 0
-few_bits own = IfSome own (λ i. inside_weight 6 i ≤ 8000)
-
 fewer : (n : ℕ) (o : Option Inside) → n ≤ 8000 → AreGood n o → few_bits o
-fewer n None h g = tt
-fewer n (Some own) h g = let few : inside_weight 6 own ≤ n = g.few in omega arith
+fewer n o h good = frames.fewer kinds V2G_MESSAGE_KIND n o h good
 
 brief_tell : (s : SessionId) (c : Code) (t : Tell) → CanSession s → CanTell t → HasEntries 1 t → few_bits (in_tell s c t)
 brief_tell s c (tell.ChargeParameters p schedule (limits.Ac x y z)) named can few = tt
@@ -359,9 +297,7 @@ brief_tell s c (tell.ChargeParameters p schedule (limits.Dc status a w v la lv r
 brief_tell s c other named can few = fewer 2000 (in_tell s c other) (lit≤ tt) (tell_good s c other named can)
 
 brief_ask : (s : SessionId) (a : Ask) → CanSession s → CanAsk a → few_bits (in_ask s a)
-brief_ask s (ask.PowerDelivery p tuple watts) named can =
-    fewer 8000 (in_ask s (ask.PowerDelivery p tuple watts)) (lit≤ tt) (ask_good s (ask.PowerDelivery p tuple watts) named can)
-brief_ask s other named can = fewer 2000 (in_ask s other) (lit≤ tt) (ask_good s other named can)
+brief_ask s a named can = fewer (asked_bits plain_bits a) (in_ask s a) (asked_few plain_bits (lit≤ tt) a) (ask_good s a named can)
 
 pub brief_bits : (w : Word) → CanSpell w → IsBrief w → few_bits (in_word w)
 brief_bits (word.Request r) can few = brief_ask r.session r.ask can.0 can.1

@@ -5,15 +5,16 @@
 //! are dropped; it can be written, and is short.
 #![tactic(auto)]
 
-ghost use Rattle.din_table_laws.specs.Laws.{ReadsAsOne, ReadsBack, IsSpelled, IsShort, FitsRoom};
+ghost use Rattle.message_tables.specs.Laws.{ReadsAsOne, ReadsBack, IsSpelled, IsShort, FitsRoom};
+ghost use Rattle.din_table_laws.specs.Laws.{dialect};
 
 /// A payload reads as one word at most. What is written for a word that can be spelled reads as that word, but for watts that are dropped;
 /// it can be written, and has no more than 256 bytes, or 1,024 with a profile and 20,480 with schedules; where no schedule has more than one
 /// entry, it fits in 1,024 bytes.
 pub fn payloads_have_words()
-    ensures one { ReadsAsOne }
-    ensures back { ReadsBack }
-    ensures spelled { IsSpelled }
-    ensures short { IsShort }
-    ensures room { FitsRoom }
+    ensures one { ReadsAsOne dialect }
+    ensures back { ReadsBack dialect }
+    ensures spelled { IsSpelled dialect }
+    ensures short { IsShort dialect }
+    ensures room { FitsRoom dialect }
 {}

@@ -3,7 +3,6 @@ use Rattle.std.specs.Prelude.{max, fold, map, ℤ, Bool, true, false, List, [], 
 use Rattle.std.specs.Option.{option_map}
 use Rattle.session_words.specs.declared.amount.Amount.{Amount}
 use Rattle.session_words.specs.declared.code.Code.{Code}
-use Rattle.session_words.specs.declared.code.Processing.{Processing}
 use Rattle.session_words.specs.declared.code.Progress.{Progress}
 use Rattle.session_words.specs.declared.code.Progress.TheVariants as progress
 use Rattle.session_words.specs.declared.limits.DcStatus.{DcStatus}
@@ -15,19 +14,14 @@ use Rattle.session_words.specs.declared.word.Tell.TheVariants as tell
 use Rattle.din_schema.specs.declared.names.TheConstants.{RESPONSE_CODE, EVSE_PROCESSING, DC_EV_STATUS, DC_EVSE_STATUS, EV_TARGET_CURRENT, EV_TARGET_VOLTAGE, CHARGING_COMPLETE, EVSE_PRESENT_VOLTAGE, EVSE_PRESENT_CURRENT, EVSE_CURRENT_LIMIT_ACHIEVED, EVSE_VOLTAGE_LIMIT_ACHIEVED, EVSE_POWER_LIMIT_ACHIEVED, EVSE_MAXIMUM_VOLTAGE_LIMIT, EVSE_MAXIMUM_CURRENT_LIMIT, EVSE_MAXIMUM_POWER_LIMIT, READY_TO_CHARGE_STATE, CHARGING_PROFILE, SA_SCHEDULE_TUPLE_ID, PROFILE_ENTRY, CHARGING_PROFILE_ENTRY_START, CHARGING_PROFILE_ENTRY_MAX_POWER}
 use Rattle.din_schema.specs.declared.kinds.TheConstants.{BOOLEAN_KIND, SHORT_KIND, UNSIGNED_INT_KIND}
 use Rattle.word_tables.specs.Tables.{Table, inside, rows, flag, natural, integer, simple, holding, meaning, nothing, once, perhaps, each, always, ◌▷◌}
+pub use Rattle.message_tables.specs.Meanings.{CarStatus, Car, Present, cable_check_asked, CableCheck, cable_check_told, PreCharge, pre_charge_asked, pre_charge_told, DemandReq, demand_asked, welding_asked, welding_told}
 use Rattle.din_tables.specs.Codes.{response_code, step}
-use Rattle.din_tables.specs.Values.{current, voltage, power, whole_watts, CarStatus, car_status, post_status}
+use Rattle.din_tables.specs.Values.{current, voltage, power, whole_watts, car_status, post_status}
 
 -- ---- what several have: the status of the car, or of the post and a voltage
 
-abbrev pub Car : Type 0
-Car = CarStatus × Unit {0}
-
 abbrev pub car_alone : Table rows Car
 car_alone = once DC_EV_STATUS car_status ▷ nothing
-
-abbrev pub Present : Type 0
-Present = DcStatus × (Amount × Unit {0})
 
 abbrev pub present_voltage : Table rows (Code × Present)
 present_voltage =
@@ -38,12 +32,6 @@ present_voltage =
 
 -- ---- CableCheck
 
-abbrev pub cable_check_asked : Car → Ask
-cable_check_asked x = ask.CableCheck x.0.0 x.0.1.0
-
-abbrev pub CableCheck : Type 0
-CableCheck = DcStatus × (Processing × Unit {0})
-
 abbrev pub cable_check_res : Table rows (Code × CableCheck)
 cable_check_res =
     once RESPONSE_CODE response_code
@@ -51,13 +39,7 @@ cable_check_res =
     ▷ once EVSE_PROCESSING step
     ▷ nothing
 
-abbrev pub cable_check_told : CableCheck → Tell
-cable_check_told x = tell.CableCheck x.0 x.1.0
-
 -- ---- PreCharge
-
-abbrev pub PreCharge : Type 0
-PreCharge = CarStatus × (Amount × (Amount × Unit {0}))
 
 abbrev pub pre_charge_req : Table rows PreCharge
 pre_charge_req =
@@ -65,12 +47,6 @@ pre_charge_req =
     ▷ once EV_TARGET_VOLTAGE voltage
     ▷ once EV_TARGET_CURRENT current
     ▷ nothing
-
-abbrev pub pre_charge_asked : PreCharge → Ask
-pre_charge_asked x = ask.PreCharge x.0.0 x.0.1.0 x.1.0 x.1.1.0
-
-abbrev pub pre_charge_told : Present → Tell
-pre_charge_told x = tell.PreCharge x.0 x.1.0
 
 -- ---- PowerDelivery: perhaps a profile, of which a word has the greatest power. It is written as one entry from second 0 on
 
@@ -133,9 +109,6 @@ delivery_told x = tell.PowerDelivery (post.Dc x.0)
 
 -- ---- CurrentDemand
 
-abbrev pub DemandReq : Type 0
-DemandReq = CarStatus × (Amount × (Amount × Unit {0}))
-
 abbrev pub demand_req : Table rows DemandReq
 demand_req =
     once DC_EV_STATUS car_status
@@ -143,9 +116,6 @@ demand_req =
     ▷ always CHARGING_COMPLETE (simple flag BOOLEAN_KIND) false
     ▷ once EV_TARGET_VOLTAGE voltage
     ▷ nothing
-
-abbrev pub demand_asked : DemandReq → Ask
-demand_asked ((ready, (soc, end)), (current, (voltage, more))) = ask.CurrentDemand ready soc voltage current
 
 abbrev pub Demand : Type 0
 Demand = DcStatus × (Amount × (Amount × (Bool × (Bool × (Bool × (Option Amount × (Option Amount × (Option Amount × Unit {0}))))))))
@@ -167,11 +137,3 @@ demand_res =
 abbrev pub demand_told : Demand → Tell
 demand_told (status, (v, (a, (a_cut, (v_cut, (w_cut, (most_v, (most_a, (most_w, end))))))))) =
     tell.CurrentDemand status v a a_cut v_cut w_cut most_v most_a most_w None
-
--- ---- WeldingDetection
-
-abbrev pub welding_asked : Car → Ask
-welding_asked x = ask.WeldingDetection x.0.0 x.0.1.0
-
-abbrev pub welding_told : Present → Tell
-welding_told x = tell.WeldingDetection x.0 x.1.0

@@ -1,19 +1,17 @@
 -- DIN SPEC 70121:2014 9.4 (messages that set up a session and end it): what stands where in them, and what it asks or tells.
 use Rattle.std.specs.Prelude.{ℕ, Bool, List, [], ◌∷◌}
 use Rattle.session_words.specs.declared.code.Code.{Code}
-use Rattle.session_words.specs.declared.code.Processing.{Processing}
 use Rattle.session_words.specs.declared.limits.EvseId.TheVariants as evse
 use Rattle.session_words.specs.declared.mode.OfferedMode.{OfferedMode}
 use Rattle.session_words.specs.declared.mode.OfferedMode.TheVariants as offered
-use Rattle.session_words.specs.declared.word.Ask.{Ask}
-use Rattle.session_words.specs.declared.word.Ask.TheVariants as ask
 use Rattle.session_words.specs.declared.word.Tell.{Tell}
 use Rattle.session_words.specs.declared.word.Tell.TheVariants as tell
 use Rattle.din_schema.specs.declared.names.TheConstants.{RESPONSE_CODE, EVCCID, EVSEID, PAYMENT_OPTIONS, PAYMENT_OPTION, CHARGE_SERVICE, SERVICE_TAG, SERVICE_ID, SERVICE_CATEGORY, FREE_SERVICE, ENERGY_TRANSFER_TYPE, SELECTED_PAYMENT_OPTION, SELECTED_SERVICE_LIST, SELECTED_SERVICE, EVSE_PROCESSING}
 use Rattle.din_schema.specs.declared.kinds.TheConstants.{BOOLEAN_KIND, UNSIGNED_SHORT_KIND, BINARY8_KIND, BINARY32_KIND, PAYMENT_OPTION_KIND, SERVICE_CATEGORY_KIND}
 use Rattle.word_tables.specs.Tables.{Table, inside, rows, flag, ordinal, natural, simple, holding, nothing, once, always, ◌▷◌}
+use Rattle.message_tables.specs.Values.{some_bytes, only, list_of}
+pub use Rattle.message_tables.specs.Meanings.{SetupReq, setup_asked, Selection, selection_asked, Authorization, authorization_told}
 use Rattle.din_tables.specs.Codes.{response_code, step, offered_mode, external}
-use Rattle.din_tables.specs.Values.{some_bytes, only, list_of}
 
 -- ---- a code alone
 
@@ -22,14 +20,8 @@ code_alone = once RESPONSE_CODE response_code ▷ nothing
 
 -- ---- SessionSetup
 
-abbrev pub SetupReq : Type 0
-SetupReq = List ℕ × Unit {0}
-
 abbrev pub setup_req : Table rows SetupReq
 setup_req = once EVCCID (some_bytes 8 BINARY8_KIND) ▷ nothing
-
-abbrev pub setup_asked : SetupReq → Ask
-setup_asked x = ask.SessionSetup (record { items = x.0 })
 
 abbrev pub Setup : Type 0
 Setup = List ℕ × Unit {0}
@@ -78,9 +70,6 @@ first_mode (mode ∷ modes) = mode
 
 -- ---- ServicePaymentSelection
 
-abbrev pub Selection : Type 0
-Selection = Bool × (List ℕ × Unit {0})
-
 abbrev pub service : Table inside ℕ
 service = only SERVICE_ID (simple natural UNSIGNED_SHORT_KIND)
 
@@ -90,19 +79,10 @@ selection_req =
     ▷ once SELECTED_SERVICE_LIST (list_of SELECTED_SERVICE 1 16 service)
     ▷ nothing
 
-abbrev pub selection_asked : Selection → Ask
-selection_asked x = ask.PaymentSelection x.0 (record { items = x.1.0 })
-
 -- ---- ContractAuthentication
-
-abbrev pub Authorization : Type 0
-Authorization = Processing × Unit {0}
 
 abbrev pub authorization_res : Table rows (Code × Authorization)
 authorization_res =
     once RESPONSE_CODE response_code
     ▷ once EVSE_PROCESSING step
     ▷ nothing
-
-abbrev pub authorization_told : Authorization → Tell
-authorization_told x = tell.Authorization x.0

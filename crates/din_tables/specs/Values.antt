@@ -11,7 +11,7 @@ use Rattle.word_values.specs.Amounts.{in_tenths, in_watts, written_tenths, writt
 use Rattle.din_schema.specs.declared.names.TheConstants.{MULTIPLIER, UNIT, VALUE, EV_READY, EV_ERROR_CODE, EVRESS_SOC, EVSE_ISOLATION_STATUS, EVSE_STATUS_CODE, NOTIFICATION_MAX_DELAY, EVSE_NOTIFICATION}
 use Rattle.din_schema.specs.declared.kinds.TheConstants.{BOOLEAN_KIND, SHORT_KIND, UNSIGNED_INT_KIND, MULTIPLIER_KIND, PERCENT_KIND, UNIT_SYMBOL_KIND, EV_ERROR_CODE_KIND}
 use Rattle.word_tables.specs.Tables.{Table, inside, rows, flag, ordinal, natural, integer, simple, holding, meaning, nothing, once, perhaps, always, ◌▷◌}
-pub use Rattle.message_tables.specs.Values.{some_bytes, only, list_of}
+use Rattle.message_tables.specs.Meanings.{CarStatus}
 use Rattle.din_tables.specs.Codes.{isolation, notification, status_code}
 
 -- ---- PhysicalValue
@@ -58,9 +58,6 @@ abbrev pub whole_watts : Table inside Amount
 whole_watts = meaning (λ v. record { size = above_zero v; right = true }) (λ a. pos a.size) (simple integer SHORT_KIND)
 
 -- ---- DC_EVStatus: whether the car is ready, and how full it is in percent; it has no error
-
-abbrev pub CarStatus : Type 0
-CarStatus = Bool × (ℕ × Unit {0})
 
 abbrev pub car_rows : Table rows CarStatus
 car_rows =

@@ -18,13 +18,19 @@ use Rattle.session_words.specs.declared.word.Word.TheVariants as word
 use Rattle.din_schema.specs.declared.names.TheConstants.{V2G_MESSAGE, SESSION_SETUP_REQ, SESSION_SETUP_RES, SERVICE_DISCOVERY_REQ, SERVICE_DISCOVERY_RES, SERVICE_PAYMENT_SELECTION_REQ, SERVICE_PAYMENT_SELECTION_RES, CONTRACT_AUTHENTICATION_REQ, CONTRACT_AUTHENTICATION_RES, CHARGE_PARAMETER_DISCOVERY_REQ, CHARGE_PARAMETER_DISCOVERY_RES, CABLE_CHECK_REQ, CABLE_CHECK_RES, PRE_CHARGE_REQ, PRE_CHARGE_RES, POWER_DELIVERY_REQ, POWER_DELIVERY_RES, CURRENT_DEMAND_REQ, CURRENT_DEMAND_RES, WELDING_DETECTION_REQ, WELDING_DETECTION_RES, SESSION_STOP_REQ, SESSION_STOP_RES}
 use Rattle.word_tables.specs.Tables.{Table, rows, nothing}
 use Rattle.message_tables.specs.Frame as frames
-pub use Rattle.message_tables.specs.Frame.{word_by, word_inside, tree_word_by}
-use Rattle.din_tables.specs.Frame.{frame, Message, asks, tells}
+use Rattle.message_tables.specs.Frame.{Message, word_inside, tree_word_by}
+use Rattle.din_tables.specs.Frame.{frame}
 use Rattle.din_tables.specs.Setup.{code_alone, setup_req, setup_asked, setup_res, setup_told, discovery_res, discovery_told, first_mode, selection_req, selection_asked, authorization_res, authorization_told}
 use Rattle.din_tables.specs.Power.{car_alone, present_voltage, cable_check_asked, cable_check_res, cable_check_told, pre_charge_req, pre_charge_asked, pre_charge_told, delivery_req, is_start, delivery_asked, profile_if, delivery_res, delivery_told, demand_req, demand_asked, demand_res, demand_told, welding_asked, welding_told}
 use Rattle.din_tables.specs.Parameters.{parameters_req, parameters_asked, parameters_res, parameters_told}
 
 -- ---- the messages. SessionStop terminates
+
+abbrev asks : {X : Type 0} → ℕ → Table rows X → (X → Ask) → Message
+asks name table ask = frames.asks frame name table ask
+
+abbrev tells : {X : Type 0} → ℕ → Table rows (Code × X) → (X → Tell) → Message
+tells name table tell = frames.tells frame name table tell
 
 abbrev pub messages : List Message
 messages =
@@ -66,7 +72,7 @@ word_of_tree tree = tree_word_by frame messages tree
 
 -- ---- the tree of a word, of those that have one
 
-abbrev pub in_message : {X : Type 0} → ℕ → Table rows X → SessionId → X → Option Inside
+abbrev in_message : {X : Type 0} → ℕ → Table rows X → SessionId → X → Option Inside
 in_message name table s x = frames.in_message frame name table s x
 
 abbrev pub in_ask : SessionId → Ask → Option Inside

@@ -1,5 +1,5 @@
 -- DIN SPEC 70121:2014, DC_EVSEStatusType and DC_EVStatusType, as words have them.
-use Rattle.std.specs.Prelude.{ℕ, Bool, Option, None}
+use Rattle.std.specs.Prelude.{ℕ, Bool, None}
 use Rattle.std.specs.Option.{option_map}
 use Rattle.din_parts.specs.declared.enumerations.EvErrorCode.TheVariants.{NoError}
 use Rattle.din_parts.specs.declared.values.DcEvStatus.{DcEvStatus}

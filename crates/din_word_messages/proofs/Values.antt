@@ -28,7 +28,8 @@ use Rattle.din_values.specs.Modes.{energy_transfer_mode, offered_mode}
 use Rattle.din_values.specs.Physical.{unit_if as din_unit_if, physical as din_physical, tenths_of, power_of}
 use Rattle.din_values.specs.States.{isolation_level, evse_status_code, evse_notification, evse_processing, payment_option}
 use Rattle.word_tables.specs.Tables.{written}
-use Rattle.din_tables.specs.Codes.{level_number, notify_number, status_number, code_number, processing_number, mode_number, offered_number, payment_number}
+use Rattle.message_tables.specs.Codes.{notify_number, status_number, mode_number, second_number}
+use Rattle.din_tables.specs.Codes.{level_number, code_number, processing_number, offered_number}
 use Rattle.din_tables.specs.Values.{unit_if, spelled, physical, voltage, power}
 
 -- ---- enumerations
@@ -49,7 +50,7 @@ pub offered_written : (m : OfferedMode) → supported_energy_transfer_type_ordin
 offered_written offered.DcCore = refl
 offered_written other = refl
 
-pub external_written : (external : Bool) → payment_option_ordinal (payment_option external) ≡ payment_number external
+pub external_written : (external : Bool) → payment_option_ordinal (payment_option external) ≡ second_number external
 external_written true = refl
 external_written false = refl
 

@@ -10,7 +10,7 @@ use Rattle.session_words.specs.declared.word.Word.TheVariants as word
 use Rattle.din_message.specs.declared.message.BodyElement.{BodyElement}
 use Rattle.din_message.specs.declared.message.DinMessage.{DinMessage}
 use Rattle.din_message.specs.Documents.{din_inside}
-use Rattle.din_tables.specs.Frame.{session_of}
+use Rattle.message_tables.specs.Frame.{session_of}
 use Rattle.din_tables.specs.Words.{in_ask, in_tell, in_word}
 
 -- a message under this identifier, without a notification

@@ -1,7 +1,7 @@
 -- Own: a word that the declarations of DIN SPEC 70121:2014 can spell: its messages, codes, modes, states and steps are DIN's, its lists
 -- within their bounds, its numbers within their ranges, and its amounts such that a Value of 16 bits with a sign and a Multiplier write
 -- them.
-use Rattle.std.specs.Prelude.{◌≡◌, ℕ, ◌<◌, ◌≤◌, true, not, IsTrue, All, length, ℤ, pos, negsuc, ◌≤ℤ◌, IfSome, Option, Some, None}
+use Rattle.std.specs.Prelude.{◌≡◌, ◌≤◌, true, not, IsTrue, All, length, ℤ, pos, negsuc, ◌≤ℤ◌, IfSome, Option, Some, None}
 use Rattle.arrayvec.specs.ArrayVec.{ArrayVec}
 use Rattle.session_words.specs.declared.amount.Amount.{Amount}
 use Rattle.session_words.specs.declared.code.Progress.{Progress}
@@ -16,7 +16,6 @@ use Rattle.session_words.specs.declared.limits.PostLimits.TheVariants as limits
 use Rattle.session_words.specs.declared.limits.PostStatus.{PostStatus}
 use Rattle.session_words.specs.declared.limits.PostStatus.TheVariants as post
 use Rattle.session_words.specs.declared.limits.Tuple.{Tuple}
-use Rattle.session_words.specs.declared.session.SessionId.{SessionId}
 use Rattle.session_words.specs.declared.word.Ask.{Ask}
 use Rattle.session_words.specs.declared.word.Ask.TheVariants as ask
 use Rattle.session_words.specs.declared.word.Tell.{Tell}
@@ -26,32 +25,12 @@ use Rattle.session_words.specs.declared.word.Word.TheVariants as word
 use Rattle.din_values.specs.Codes.{is_din_code}
 use Rattle.din_values.specs.Modes.{is_din_mode}
 use Rattle.din_values.specs.States.{is_din_level, is_din_processing}
-use Rattle.word_values.specs.Amounts.{can_write_tenths}
-
--- tenths that some Multiplier from -1 to 3 gives exactly
-abbrev pub AreTenths : Amount → Type 0
-AreTenths amount = IsTrue (can_write_tenths amount.size)
-
--- watts that a Value and a Multiplier up to 3 write, but for what is dropped
-abbrev pub AreWatts : Amount → Type 0
-AreWatts amount = amount.size < 32768000
+pub use Rattle.message_tables.specs.Spellable.{AreTenths, AreWatts, IsByte, IsService, IsCharge, IsFromTo, AreBytes, AreServices, AreTuples, CanSession}
 
 -- whole watts of 16 bits with a sign, without a unit
 pub record AreFewWatts (amount : Amount) : Type 0 where
   pub few : amount.size ≤ 32767
   pub right : amount.right ≡ true
-
-abbrev pub IsByte : ℕ → Type 0
-IsByte byte = byte < 256
-
-abbrev pub IsService : ℕ → Type 0
-IsService number = number ≤ 65535
-
-abbrev pub IsCharge : ℕ → Type 0
-IsCharge soc = soc ≤ 100
-
-abbrev pub IsFromTo : ℕ → ℕ → ℕ → Type 0
-IsFromTo least most n = (least ≤ n) × (n ≤ most)
 
 -- the number of a schedule tuple
 abbrev pub IsTupleNumber : ℤ → Type 0
@@ -76,10 +55,10 @@ CanProfile (Some tuple) None = ⊥
 CanProfile None (Some power) = ⊥
 
 abbrev pub CanAsk : Ask → Type 0
-CanAsk (ask.SessionSetup car) = (length car.items ≤ 8) × All IsByte car.items
+CanAsk (ask.SessionSetup car) = AreBytes 8 car
 CanAsk ask.ServiceDiscovery = Unit {0}
 CanAsk (ask.ServiceDetail service) = ⊥
-CanAsk (ask.PaymentSelection external services) = IsFromTo 1 16 (length services.items) × All IsService services.items
+CanAsk (ask.PaymentSelection external services) = AreServices services
 CanAsk ask.Authorization = Unit {0}
 CanAsk (ask.ChargeParameters mode limits) = CanCarLimits limits
 CanAsk (ask.CableCheck ready soc) = IsCharge soc
@@ -95,7 +74,7 @@ CanAsk (ask.SessionStop pause) = IsTrue (not pause)
 -- an EVSEID of DIN: at most 32 bytes
 abbrev pub CanEvse : EvseId → Type 0
 CanEvse (evse.Text id) = ⊥
-CanEvse (evse.Bytes id) = (length id.items ≤ 32) × All IsByte id.items
+CanEvse (evse.Bytes id) = AreBytes 32 id
 
 abbrev pub CanStatus : DcStatus → Type 0
 CanStatus status = IfSome status.isolation (λ level. IsTrue (is_din_level level))
@@ -110,7 +89,7 @@ pub record CanTuple (t : Tuple) : Type 0 where
   pub least : AreFewWatts t.least
 
 abbrev pub CanTuples : ArrayVec Tuple → Type 0
-CanTuples tuples = IsFromTo 1 3 (length tuples.items) × All CanTuple tuples.items
+CanTuples tuples = AreTuples CanTuple tuples
 
 abbrev pub CanPostLimits : PostLimits → Type 0
 CanPostLimits (limits.Ac notify nominal current) = ⊥
@@ -141,9 +120,6 @@ CanTell (tell.WeldingDetection status voltage) = CanStatus status × AreTenths v
 CanTell tell.SessionStop = Unit {0}
 
 -- ---- words
-
-abbrev pub CanSession : SessionId → Type 0
-CanSession session = (length session.bytes.items ≤ 8) × All IsByte session.bytes.items
 
 abbrev pub CanSpell : Word → Type 0
 CanSpell (word.Request r) = CanSession r.session × CanAsk r.ask

@@ -15,7 +15,7 @@ use Rattle.session_words.specs.declared.word.Ask.TheVariants as ask
 use Rattle.session_words.specs.declared.word.Tell.TheVariants as tell
 use Rattle.tree_words.specs.Named.{children}
 use Rattle.tree_words.proofs.Held.{kept_each, held, children_held}
-use Rattle.tree_words.proofs.Lists.{reads_each, counts_each}
+use Rattle.tree_words.proofs.Lists.{counts_each}
 use Rattle.din_parts.specs.Codes.{energy_transfer_mode_ordinal, evse_processing_ordinal}
 use Rattle.din_parts.specs.Values.{evse_status_inside}
 use Rattle.din_parts.specs.declared.codes.EnergyTransferMode.{EnergyTransferMode}
@@ -56,12 +56,14 @@ use Rattle.din_power.specs.declared.schedules.TimeInterval.{TimeInterval}
 use Rattle.din_power.specs.declared.schedules.TimeInterval.TheVariants as interval
 use Rattle.din_schema.specs.declared.names.TheConstants.{SELECTED_SERVICE, PROFILE_ENTRY, P_MAX_SCHEDULE_ENTRY, SA_SCHEDULE_TUPLE}
 use Rattle.word_tables.specs.Tables.{read}
+use Rattle.word_tables.proofs.Held.{parts_read, read_held, held_read}
+use Rattle.message_tables.specs.Values.{list_of, least_of}
+use Rattle.message_tables.proofs.Lists.{list_read}
 use Rattle.din_tables.specs.Codes.{step, wanted_mode}
-use Rattle.din_tables.specs.Values.{post_status, list_of}
+use Rattle.din_tables.specs.Values.{post_status}
 use Rattle.din_tables.specs.Setup.{service}
 use Rattle.din_tables.specs.Power.{profile_entry, most_of, profile, delivery_req, progress_of, delivery_asked, delivery_res, delivery_told, demand_req, demand_asked, demand_res, demand_told}
-use Rattle.din_tables.specs.Parameters.{schedule_entry, least_of, tuple_of, tuple, schedules, car_parameters, parameters_req, parameters_asked, post_parameters, parameters_res, limits_of, parameters_told}
-use Rattle.din_words.proofs.Values.{parts_read, read_held, held_read}
+use Rattle.din_tables.specs.Parameters.{schedule_entry, tuple_of, tuple, schedules, car_parameters, parameters_req, parameters_asked, post_parameters, parameters_res, limits_of, parameters_told}
 
 -- ---- services
 
@@ -70,9 +72,7 @@ service_id s = s.service_id
 
 pub services_read : (l : SelectedServiceList)
     → read (list_of SELECTED_SERVICE 1 16 service) (holding (selected_service_list_parts l)) ≡ map service_id l.selected_service.items
-services_read l =
-    ap (λ c. map (λ i. read service i) (c SELECTED_SERVICE)) (children_held [] (selected_service_list_parts l))
-    ∙ reads_each (λ i. read service i) (λ s. holding (selected_service_parts s)) service_id (λ s. refl) l.selected_service.items
+services_read l = list_read SELECTED_SERVICE 1 16 service (λ s. holding (selected_service_parts s)) service_id (λ s. refl) l.selected_service.items
 
 -- ---- power delivery
 
@@ -164,9 +164,7 @@ abbrev pub tuple_in : SaScheduleTuple → Tuple
 tuple_in t = read tuple (holding (sa_schedule_tuple_parts t))
 
 pub schedules_read : (l : SaScheduleList) → read schedules (holding (sa_schedule_list_parts l)) ≡ map tuple_in l.sa_schedule_tuple.items
-schedules_read l =
-    ap (λ c. map (λ i. read tuple i) (c SA_SCHEDULE_TUPLE)) (children_held [] (sa_schedule_list_parts l))
-    ∙ reads_each (λ i. read tuple i) (λ t. holding (sa_schedule_tuple_parts t)) tuple_in (λ t. refl) l.sa_schedule_tuple.items
+schedules_read l = list_read SA_SCHEDULE_TUPLE 1 3 tuple (λ t. holding (sa_schedule_tuple_parts t)) tuple_in (λ t. refl) l.sa_schedule_tuple.items
 
 -- ---- charge parameters
 

@@ -1,16 +1,16 @@
 -- What the tables read of values of a message, and of its parts, is what the functions of `din_values` make of them.
-use Rattle.std.proofs.Common.{◌≡◌, ℕ, true, List, [], Option, Some, None, refl, ◌∙◌, ap}
+use Rattle.std.proofs.Common.{◌≡◌, ℕ, true, [], Option, Some, None, refl, ◌∙◌, ap}
 use Rattle.std.specs.Option.{option_map}
 use Rattle.charge_world.specs.declared.heard.IsolationLevel.{IsolationLevel}
 use Rattle.exi_documents.specs.Trees.{Ordinal}
-use Rattle.message_parts.specs.Contents.{Inside, Of, Part, mapped, holding}
+use Rattle.message_parts.specs.Contents.{Inside, Of, mapped, holding}
 use Rattle.session_words.specs.declared.amount.Amount.{Amount}
 use Rattle.session_words.specs.declared.code.Notify.{Notify}
 use Rattle.session_words.specs.declared.code.StatusCode.{StatusCode}
 use Rattle.session_words.specs.declared.limits.DcStatus.{DcStatus}
 use Rattle.tree_words.specs.Leaves.{ordinal_in, natural_in}
 use Rattle.tree_words.specs.Named.{head, children}
-use Rattle.tree_words.proofs.Held.{kept_if, held, children_held}
+use Rattle.tree_words.proofs.Held.{kept_if, children_held}
 use Rattle.tree_words.proofs.Lists.{reads_if, ◌⊛◌}
 use Rattle.word_values.specs.Amounts.{in_tenths, in_watts}
 use Rattle.din_parts.specs.Enumerations.{unit_symbol_ordinal, isolation_level_ordinal, evse_status_code_ordinal, evse_notification_ordinal}
@@ -43,26 +43,10 @@ use Rattle.din_values.specs.Physical.{is_volt, is_ampere, is_watt, voltage_in, c
 use Rattle.din_values.specs.States.{isolation_of, status_code_of, notify_of, processing_of, is_external}
 use Rattle.din_values.specs.Statuses.{dc_status_of}
 use Rattle.din_schema.specs.declared.names.TheConstants.{EVRESS_SOC}
-use Rattle.word_tables.specs.Tables.{Table, inside, rows, simple, holding as holding_rows, attributed, meaning, leaf_in, or_empty, read}
+use Rattle.word_tables.specs.Tables.{or_empty, read}
+use Rattle.word_tables.proofs.Held.{parts_read}
 use Rattle.din_tables.specs.Codes.{isolation, notification, status_code, response_code, step, wanted_mode, offered_mode, external}
 use Rattle.din_tables.specs.Values.{Physical, is_right, physical_rows, current, voltage, power, status_rows, status_of, post_status}
-
--- what is read of an element of these parts is what they say
-pub parts_read : {X : Type 0} (t : Table rows X) (parts : List Part) → read t (children (holding parts)) ≡ read t (held parts)
-parts_read t parts = ap (λ c. read t c) (children_held [] parts)
-
--- and so of one inside of which anything of a table may stand
-abbrev pub read_held : {X : Type 0} → Table inside X → List Part → X
-read_held (simple leaf kind) parts = leaf_in leaf (holding parts)
-read_held (holding_rows t) parts = read t (held parts)
-read_held (attributed given t) parts = (read given [], read t (held parts))
-read_held (meaning of from t) parts = of (read_held t parts)
-
-pub held_read : {X : Type 0} (t : Table inside X) (parts : List Part) → read t (holding parts) ≡ read_held t parts
-held_read (simple leaf kind) parts = refl
-held_read (holding_rows t) parts = parts_read t parts
-held_read (attributed given t) parts = ap (λ x. (read given [], x)) (parts_read t parts)
-held_read (meaning of from t) parts = ap of (held_read t parts)
 
 -- ---- physical values
 

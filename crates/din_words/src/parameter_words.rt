@@ -11,7 +11,8 @@ ghost use Rattle.din_power.specs.Discovery.{charge_parameter_discovery_req_parts
 ghost use Rattle.din_power.specs.Limits.{ev_charge_parameter_inside, evse_charge_parameter_inside};
 ghost use Rattle.din_power.specs.Schedules.{sa_schedule_list_parts, sa_schedule_tuple_parts, sa_schedules_inside};
 ghost use Rattle.word_tables.specs.Tables.{read};
-ghost use Rattle.din_tables.specs.Parameters.{car_parameters, parameters_req, parameters_asked, least_of, tuple as tuple_table, schedules as schedules_table, post_parameters, parameters_res, limits_of, parameters_told};
+ghost use Rattle.message_tables.specs.Values.{least_of};
+ghost use Rattle.din_tables.specs.Parameters.{car_parameters, parameters_req, parameters_asked, tuple as tuple_table, schedules as schedules_table, post_parameters, parameters_res, limits_of, parameters_told};
 
 use arrayvec::ArrayVec;
 use din_power::{

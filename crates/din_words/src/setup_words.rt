@@ -11,7 +11,7 @@ ghost use Rattle.din_setup.specs.Session.{session_setup_req_parts, session_setup
 ghost use Rattle.din_schema.specs.declared.names.TheConstants.{SELECTED_SERVICE};
 ghost use Rattle.word_tables.specs.Tables.{read};
 ghost use Rattle.din_tables.specs.Codes.{offered_mode};
-ghost use Rattle.din_tables.specs.Values.{list_of};
+ghost use Rattle.message_tables.specs.Values.{list_of};
 ghost use Rattle.din_tables.specs.Setup.{setup_req, setup_asked, setup_res, setup_told, discovery_res, discovery_told, service, selection_req, selection_asked, authorization_res, authorization_told};
 
 use arrayvec::ArrayVec;

@@ -9,7 +9,7 @@ ghost use Rattle.din_parts.specs.Codes.{response_code_ordinal};
 ghost use Rattle.din_message.specs.Documents.{din_tree};
 ghost use Rattle.word_tables.specs.Tables.{read};
 ghost use Rattle.din_tables.specs.Codes.{response_code};
-ghost use Rattle.din_tables.specs.Frame.{session_of};
+ghost use Rattle.message_tables.specs.Frame.{session_of};
 ghost use Rattle.din_tables.specs.Words.{word_of_tree};
 
 use crate::parameter_words::{parameters_ask, parameters_tell};

@@ -30,13 +30,11 @@ use Rattle.session_words.specs.declared.limits.PostLimits.TheVariants as limits
 use Rattle.session_words.specs.declared.limits.PostStatus.{PostStatus}
 use Rattle.session_words.specs.declared.limits.PostStatus.TheVariants as post
 use Rattle.session_words.specs.declared.limits.Tuple.{Tuple}
-use Rattle.session_words.specs.declared.mode.Mode.{Mode}
 use Rattle.session_words.specs.declared.mode.OfferedMode.{OfferedMode}
 use Rattle.session_words.specs.declared.mode.OfferedMode.TheVariants as offered
 use Rattle.tree_words.proofs.Lists.{◌⊛◌}
 use Rattle.word_values.proofs.TextLemmas.{fitting_all}
 use Rattle.word_values.specs.Items.{evse_bytes}
-use Rattle.written_parts.proofs.Items.{head, tail}
 use Rattle.written_words.proofs.Numbers.{tenths_back, volts_back, watts_back}
 use Rattle.written_words.specs.Back.{dropped_car}
 use Rattle.iso_values.specs.Codes.{is_iso_code}
@@ -44,10 +42,10 @@ use Rattle.iso_values.specs.Modes.{is_iso_mode}
 use Rattle.iso_word_messages.specs.Spellable.{AreTenths, CanCarLimits, IsSomeWatts, CanTuple, CanTuples, CanPostLimits}
 use Rattle.word_tables.specs.Tables.{back, of_either}
 use Rattle.message_tables.specs.Values.{entries_of}
-use Rattle.message_tables.proofs.Numbers.{notify_named, status_named, mode_named, second_named}
-use Rattle.iso_tables.specs.Codes.{isolation, response_code, step, wanted_mode, offered_mode, charge_progress, external, pause}
+use Rattle.message_tables.proofs.Lists.{if_same, if_kept, each_back, each_same}
+use Rattle.message_tables.proofs.Numbers.{notify_named, status_named}
+use Rattle.iso_tables.specs.Codes.{isolation, response_code, step, offered_mode, charge_progress}
 use Rattle.iso_tables.specs.Values.{unit_if, current, voltage, nominal, power, some_power, evse, ac_status, dc_status}
-use Rattle.iso_tables.specs.Setup.{service}
 use Rattle.iso_tables.specs.Power.{profile, status_told, status_parts}
 use Rattle.iso_tables.specs.Parameters.{ac_car, dc_car, car_of, car_parts, schedule_entry, least_power, tuple, schedules, ac_post, dc_post, limits_of, limit_parts}
 
@@ -70,14 +68,8 @@ nominal_back a h = ap₂ amount (volts_back a.size h) (right_back a.right).1
 power_back : (a : Amount) → back power a ≡ dropped a
 power_back a = ap₂ amount (watts_back a.size) (right_back a.right).2
 
--- where there is one
-pub if_back : {X : Type 0} (P : X → Type 0) (f : X → X) → ((x : X) → P x → f x ≡ x) → (o : Option X) → IfSome o P → option_map f o ≡ o
-if_back P f same None h = refl
-if_back P f same (Some x) h = ap (λ y. Some y) (same x h)
-
 pub powers_back : (o : Option Amount) → option_map (λ a. back power a) o ≡ option_map dropped o
-powers_back None = refl
-powers_back (Some a) = ap (λ y. Some y) (power_back a)
+powers_back = if_same (λ a. back power a) dropped power_back
 
 some_power_back : (o : Option Amount) → IsSomeWatts o → back some_power o ≡ option_map dropped o
 some_power_back None h = absurd h
@@ -89,17 +81,10 @@ level_back : (l : IsolationLevel) → back isolation l ≡ l
 level_back level.NoImd = refl
 level_back other = refl
 
-levels_back : (o : Option IsolationLevel) → option_map (λ l. back isolation l) o ≡ o
-levels_back None = refl
-levels_back (Some l) = ap (λ x. Some x) (level_back l)
-
-pub notify_back : (n : Notify) → back ac_status n ≡ n
-notify_back n = notify_named n
-
 pub status_back : (s : DcStatus) → back dc_status s ≡ s
 status_back s =
     let made : Notify → Option IsolationLevel → StatusCode → DcStatus = λ n i c. record { notify = n; isolation = i; code = c } in
-    ap made (notify_named s.notify) ⊛ levels_back s.isolation ⊛ status_named s.code
+    ap made (notify_named s.notify) ⊛ if_kept (λ l. back isolation l) level_back s.isolation ⊛ status_named s.code
 
 pub post_status_back : (s : PostStatus) → status_told (of_either (λ n. back ac_status n) (λ s. back dc_status s) (status_parts s)) ≡ s
 post_status_back (post.Ac n) = ap (λ x. post.Ac x) (notify_named n)
@@ -114,9 +99,6 @@ pub step_back : (p : Processing) → back step p ≡ p
 step_back processing.Finished = refl
 step_back other = refl
 
-pub mode_back : (m : Mode) → back wanted_mode m ≡ m
-mode_back m = mode_named m
-
 offered_back : (m : OfferedMode) → IsTrue (is_iso_mode m) → back offered_mode m ≡ m
 offered_back offered.DcDual h = absurd cc
 offered_back offered.AcCore1pDcExtended h = absurd cc
@@ -126,20 +108,11 @@ offered_back offered.AcCore3pDcExtended h = absurd cc
 offered_back other h = refl
 
 pub modes_back : (ms : List OfferedMode) → All (λ m. IsTrue (is_iso_mode m)) ms → map (λ m. back offered_mode m) ms ≡ ms
-modes_back [] all = refl
-modes_back (m ∷ ms) all =
-    let Is : OfferedMode → Type 0 = λ o. IsTrue (is_iso_mode o) in
-    ap₂ (λ x xs. x ∷ xs) (offered_back m (head Is m ms all)) (modes_back ms (tail Is m ms all))
+modes_back = each_back (λ m. IsTrue (is_iso_mode m)) (λ m. back offered_mode m) offered_back
 
 pub progress_back : (p : Progress) → back charge_progress p ≡ p
 progress_back progress.Start = refl
 progress_back other = refl
-
-pub external_back : (b : Bool) → back external b ≡ b
-external_back b = second_named b
-
-pub pause_back : (b : Bool) → back pause b ≡ b
-pause_back b = second_named b
 
 -- ---- texts and lists
 
@@ -148,10 +121,6 @@ evse_back id ascii few =
     let all : IsAscii id = IsAscii-from_all id ascii in
     let same : chars id ≡ id = chars-IsAscii id all in
     ap evse_bytes same ∙ ap encodes (fitting_all 37 id few) ∙ encodes-IsAscii id all
-
-pub services_back : (ns : List ℕ) → map (λ n. back service n) ns ≡ ns
-services_back [] = refl
-services_back (n ∷ ns) = ap (λ ms. n ∷ ms) (services_back ns)
 
 and_true : (b : Bool) → (b && true) ≡ b
 and_true true = refl
@@ -168,8 +137,7 @@ profile_back a =
     ap₂ amount most (and_true one.right) ∙ power_back a
 
 pub profiles_back : (o : Option Amount) → option_map (λ a. back profile a) o ≡ option_map dropped o
-profiles_back None = refl
-profiles_back (Some a) = ap (λ x. Some x) (profile_back a)
+profiles_back = if_same (λ a. back profile a) dropped profile_back
 
 -- ---- schedules
 
@@ -203,17 +171,13 @@ tuple_back t h =
     (length-map (entries_of t) (λ y. back schedule_entry y) ∙ length-map-range_with_len (λ k. ((k, tt), (t.least, tt))) 0 t.entries)
     (least_back t.least t.entries h.entries.0)
 
-tuples_back : (ts : List Tuple) → All CanTuple ts → map (λ t. back tuple t) ts ≡ map dropped_tuple ts
-tuples_back [] h = refl
-tuples_back (t ∷ ts) h = ap₂ (λ x xs. x ∷ xs) (tuple_back t (head CanTuple t ts h)) (tuples_back ts (tail CanTuple t ts h))
-
 abbrev vec : List Tuple → ArrayVec Tuple
 vec ts = record { items = ts }
 
 pub schedules_back : (o : Option (ArrayVec Tuple)) → IfSome o CanTuples
     → option_map vec (option_map (λ ts. back schedules ts) (option_map (λ v. v.items) o)) ≡ option_map dropped_tuples o
 schedules_back None h = refl
-schedules_back (Some v) h = ap (λ ts. Some (vec ts)) (tuples_back v.items h.1)
+schedules_back (Some v) h = ap (λ ts. Some (vec ts)) (each_same CanTuple (λ t. back tuple t) dropped_tuple tuple_back v.items h.1)
 
 -- ---- limits
 

@@ -1,13 +1,11 @@
 -- What is written for words fits what ISO 15118-2:2014 declares, and is short.
-use Rattle.std.proofs.Common.{◌≡◌, ℕ, zero, suc, ◌+◌, ◌<◌, ◌≤◌, ◌≤ℤ◌, map, length, All, Bool, true, false, ℤ, pos, negsuc, List, [], ◌∷◌, Option, Some, None, refl, arith, lit<, lit≤}
+use Rattle.std.proofs.Common.{◌≡◌, ℕ, zero, suc, ◌+◌, ◌<◌, ◌≤◌, ◌≤ℤ◌, map, length, Bool, true, false, ℤ, pos, negsuc, List, [], ◌∷◌, Option, Some, None, refl, arith, lit<, lit≤}
 use Rattle.std.specs.Prelude.{IfSome}
 use Rattle.std.specs.List.{AllByRecursion, range_with_len}
 use Rattle.std.specs.Option.{option_map}
 use Rattle.std.proofs.lemmas.Int.{ints}
-use Rattle.std.proofs.lemmas.List.Elements.{All-weaker}
 use Rattle.std.proofs.lemmas.List.FromFn.{length-map-range_with_len}
 use Rattle.arrayvec.specs.ArrayVec.{ArrayVec}
-use Rattle.document_sizes.specs.Sizes.{inside_weight}
 use Rattle.exi_documents.specs.Trees.{Number}
 use Rattle.exi_documents.specs.Values.{IsValue}
 use Rattle.exi_schema.specs.declared.tables.Datatype.TheVariants.{Bounded}
@@ -42,27 +40,30 @@ use Rattle.session_words.specs.declared.word.Word.{Word}
 use Rattle.session_words.specs.declared.word.Word.TheVariants as word
 use Rattle.word_values.specs.declared.amounts.Written.{Written}
 use Rattle.word_values.specs.Amounts.{written, written_tenths, written_volts, written_watts}
-use Rattle.written_parts.proofs.Items.{head, tail, bytes_fit, text_fits, tuple_fits as number_fits}
+use Rattle.written_parts.proofs.Items.{bytes_fit, text_fits, tuple_fits as number_fits}
 use Rattle.written_parts.proofs.Numbers.{IsPhysical, tenths_fit, volts_fit, watts_fit, none_fits}
-use Rattle.written_sizes.specs.Entries.{HasEntries}
+use Rattle.written_sizes.specs.Entries.{HasEntries, IsBrief}
 use Rattle.iso_schema.specs.Declarations.{kinds}
 use Rattle.iso_schema.specs.declared.kinds.TheConstants.{V2G_MESSAGE_KIND, BINARY8_KIND}
-use Rattle.iso_schema.specs.declared.names.TheConstants.{AUTHORIZATION_REQ, AUTHORIZATION_RES, CABLE_CHECK_REQ, CABLE_CHECK_RES, CHARGE_PARAMETER_DISCOVERY_REQ, CHARGE_PARAMETER_DISCOVERY_RES, CHARGING_STATUS_REQ, CHARGING_STATUS_RES, CURRENT_DEMAND_REQ, CURRENT_DEMAND_RES, PAYMENT_SERVICE_SELECTION_REQ, PAYMENT_SERVICE_SELECTION_RES, POWER_DELIVERY_REQ, POWER_DELIVERY_RES, PRE_CHARGE_REQ, PRE_CHARGE_RES, SERVICE_DETAIL_REQ, SERVICE_DETAIL_RES, SERVICE_DISCOVERY_REQ, SERVICE_DISCOVERY_RES, SESSION_SETUP_REQ, SESSION_SETUP_RES, SESSION_STOP_REQ, SESSION_STOP_RES, WELDING_DETECTION_REQ, WELDING_DETECTION_RES}
-use Rattle.iso_word_messages.specs.Spellable.{AreTenths, AreWatts, IsService, IsCharge, IsTupleNumber, CanCarLimits, IsSomeTuple, CanAsk, IsSomeWatts, CanTuple, CanTuples, CanPostLimits, CanTell, CanSession, CanSpell}
+use Rattle.iso_schema.specs.declared.names.TheConstants.{AUTHORIZATION_REQ, AUTHORIZATION_RES, CABLE_CHECK_REQ, CABLE_CHECK_RES, CHARGE_PARAMETER_DISCOVERY_REQ, CHARGE_PARAMETER_DISCOVERY_RES, CHARGING_STATUS_REQ, CHARGING_STATUS_RES, CURRENT_DEMAND_REQ, CURRENT_DEMAND_RES, PAYMENT_SERVICE_SELECTION_REQ, PAYMENT_SERVICE_SELECTION_RES, POWER_DELIVERY_REQ, POWER_DELIVERY_RES, PRE_CHARGE_REQ, PRE_CHARGE_RES, SERVICE_DETAIL_REQ, SERVICE_DETAIL_RES, SERVICE_DISCOVERY_REQ, SERVICE_DISCOVERY_RES, SESSION_SETUP_REQ, SESSION_SETUP_RES, SESSION_STOP_REQ, SESSION_STOP_RES, WELDING_DETECTION_REQ, WELDING_DETECTION_RES, SELECTED_SERVICE, SA_SCHEDULE_TUPLE}
+use Rattle.iso_word_messages.specs.Spellable.{AreTenths, AreWatts, IsService, IsCharge, IsTupleNumber, CanCarLimits, IsSomeTuple, CanAsk, IsSomeWatts, CanTuple, CanPostLimits, CanTell, CanSession, CanSpell}
 use Rattle.word_tables.specs.Tables.{Table, rows, nothing, written as written_by}
 use Rattle.word_tables.specs.Fitting.{CanWrite, IfEither, fits, bits}
-use Rattle.message_tables.specs.Values.{some_bytes, entries_of}
+use Rattle.message_tables.specs.Values.{some_bytes, entries_of, list_of}
 use Rattle.message_tables.specs.Frame.{message, framed}
-use Rattle.message_tables.proofs.Frames.{IsGood, good as framed_good}
+use Rattle.message_tables.specs.Spellable.{AreServices}
+use Rattle.message_tables.proofs.Frames as frames
+use Rattle.message_tables.proofs.Frames.{IsGood, few_bits, asked_bits, told_bits, most_bits, asked_few}
+use Rattle.message_tables.proofs.Lists.{if_fits, each_fits}
 use Rattle.message_tables.proofs.Numbers.{notify_small, status_small, mode_small, second_small}
+use Rattle.message_tables.proofs.Schedules.{HasUpTo, HaveUpTo, declared_few, schedules_fit}
 use Rattle.iso_tables.specs.Codes.{isolation, level_number, code_number, processing_number, offered_mode, offered_number, progress_number}
 use Rattle.iso_tables.specs.Values.{unit_if, spelled, physical, current, voltage, nominal, power, some_power, car_status, ac_status, dc_status}
 use Rattle.iso_tables.specs.Frame.{frame}
 use Rattle.iso_tables.specs.Setup.{code_alone, setup_req, setup_res, discovery_res, service_row, detail_res, selection_req, service, authorization_res, stop_req}
 use Rattle.iso_tables.specs.Power.{car_alone, present_voltage, cable_check_res, pre_charge_req, profile, delivery_req, tuple_or_first, delivery_res, status_parts, demand_req, demand_res, charging_res}
-use Rattle.iso_tables.specs.Parameters.{ac_car, dc_car, car_parts, parameters_req, schedule_entry, tuple_up_to, schedules_up_to, ac_post, dc_post, limit_parts, parameters_res_up_to}
+use Rattle.iso_tables.specs.Parameters.{ac_car, dc_car, car_parts, parameters_req, schedule_entry, tuple_up_to, ac_post, dc_post, limit_parts, parameters_res_up_to}
 use Rattle.iso_tables.specs.Words.{in_ask, in_tell, in_word}
-use Rattle.iso_table_laws.specs.Laws.{IsBrief}
 
 -- ---- amounts
 
@@ -91,10 +92,6 @@ some_power_fits (Some a) h = power_fits a h
 
 energy_fits : CanWrite kinds physical (pos 0, (6, (pos 0, tt)))
 energy_fits = spelled_fits (written (pos 0) 0) 6 none_fits (lit< tt)
-
-if_fits : {X : Type 0} (P Q : X → Type 0) → ((x : X) → P x → Q x) → (o : Option X) → IfSome o P → IfSome o Q
-if_fits P Q gives None h = tt
-if_fits P Q gives (Some x) h = gives x h
 
 powers_fit : (o : Option Amount) → IfSome o AreWatts → IfSome o (λ a. CanWrite kinds power a)
 powers_fit o h = if_fits AreWatts (λ a. CanWrite kinds power a) power_fits o h
@@ -151,9 +148,13 @@ post_status_fits (post.Dc s) = status_fits s
 
 -- ---- lists
 
-services_fit : (ns : List ℕ) → All IsService ns → AllByRecursion (λ n. CanWrite kinds service n) ns
-services_fit [] all = tt
-services_fit (n ∷ ns) all = ((head IsService n ns all, tt), services_fit ns (tail IsService n ns all))
+services_fit : (services : ArrayVec ℕ) → AreServices services → CanWrite kinds (list_of SELECTED_SERVICE 1 16 service) services.items
+services_fit services can = (
+  can.0.0,
+  can.0.1,
+  each_fits IsService (λ n. CanWrite kinds service n) (λ n h. (h, tt)) services.items can.1,
+  tt,
+)
 
 modes_fit : (ms : List OfferedMode) → AllByRecursion (λ m. CanWrite kinds offered_mode m) ms
 modes_fit [] = tt
@@ -179,34 +180,12 @@ entries_fit : (a : Amount) → AreWatts a → (start n : ℕ) → start + n ≤ 
 entries_fit a few start zero h = tt
 entries_fit a few start (suc n) h = (((omega arith, (lit≤ tt, tt)), (power_fits a few, tt)), entries_fit a few (start + 1) n (omega arith))
 
-abbrev HasUpTo : ℕ → Tuple → Type 0
-HasUpTo most t = t.entries ≤ most
-
 tuple_fits : (most : ℕ) (t : Tuple) → CanTuple t → HasUpTo most t → CanWrite kinds (tuple_up_to most) t
 tuple_fits most t can few =
     let count : length (entries_of t) ≡ t.entries = length-map-range_with_len (λ k. ((k, tt), (t.least, tt))) 0 t.entries in
     let some : 1 ≤ t.entries = can.entries.0 in
     let bound : t.entries ≤ 128 = can.entries.1 in
     (id_fits t.id can.id, ((omega arith, omega arith, entries_fit t.least can.least 0 t.entries (omega arith), tt), tt))
-
-tuples_fit : (most : ℕ) (ts : List Tuple) → All CanTuple ts → All (HasUpTo most) ts → AllByRecursion (λ t. CanWrite kinds (tuple_up_to most) t) ts
-tuples_fit most [] all few = tt
-tuples_fit most (t ∷ ts) all few = (
-  tuple_fits most t (head CanTuple t ts all) (head (HasUpTo most) t ts few),
-  tuples_fit most ts (tail CanTuple t ts all) (tail (HasUpTo most) t ts few),
-)
-
-abbrev HaveUpTo : ℕ → Option (ArrayVec Tuple) → Type 0
-HaveUpTo most o = IfSome o (λ v. All (HasUpTo most) v.items)
-
-schedules_fit : (most : ℕ) (o : Option (ArrayVec Tuple)) → IfSome o CanTuples → HaveUpTo most o
-    → IfSome (option_map (λ v. v.items) o) (λ ts. CanWrite kinds (schedules_up_to most) ts)
-schedules_fit most None can few = tt
-schedules_fit most (Some v) can few = (can.0.0, can.0.1, tuples_fit most v.items can.1 few, tt)
-
-declared_few : (o : Option (ArrayVec Tuple)) → IfSome o CanTuples → HaveUpTo 128 o
-declared_few None can = tt
-declared_few (Some v) can = All-weaker CanTuple (HasUpTo 128) (λ t own. own.entries.1) v.items can.1
 
 -- ---- limits
 
@@ -229,37 +208,29 @@ post_limits_fit (limits.Dc s a w v la lv ripple) can = (
 
 -- ---- messages
 
-abbrev pub AreGood : ℕ → Option Inside → Type 0
-AreGood most own = IfSome own (IsGood frame most)
+abbrev AreGood : ℕ → Option Inside → Type 0
+AreGood most own = frames.AreGood kinds V2G_MESSAGE_KIND most own
 
 session_fits : (s : SessionId) → CanSession s → CanWrite kinds (some_bytes 8 BINARY8_KIND) s.bytes.items
 session_fits s named = bytes_fit 8 s.bytes.items named.0 named.1
 
 good : {X : Type 0} (most name : ℕ) (t : Table rows X) (s : SessionId) (x : X) → fits kinds (message frame name t) V2G_MESSAGE_KIND ≡ true
-    → bits 6 kinds (message frame name t) ≤ most → CanSession s → CanWrite kinds t x → IsGood frame most (written_by (message frame name t) (framed s x))
-good most name t s x fit few named can = framed_good frame most name t s x fit few (session_fits s named) can
+    → bits 6 kinds (message frame name t) ≤ most → CanSession s → CanWrite kinds t x
+    → IsGood kinds V2G_MESSAGE_KIND most (written_by (message frame name t) (framed s x))
+good most name t s x fit few named can = frames.good frame most name t s x fit few (session_fits s named) can
 
-abbrev pub asked_bits : Ask → ℕ
-asked_bits (ask.PowerDelivery _ _ _) = 8000
-asked_bits _ = 2500
+-- of messages without a profile and schedules
+abbrev pub plain_bits : ℕ
+plain_bits = 2500
 
-abbrev pub told_bits : Tell → ℕ
-told_bits (tell.ChargeParameters _ _ _) = 160000
-told_bits _ = 2500
-
-abbrev pub most_bits : Word → ℕ
-most_bits (word.Request r) = asked_bits r.ask
-most_bits (word.Reply r) = told_bits r.tell
-most_bits word.Nothing = 0
-
-ask_good : (s : SessionId) (a : Ask) → CanSession s → CanAsk a → AreGood (asked_bits a) (in_ask s a)
+ask_good : (s : SessionId) (a : Ask) → CanSession s → CanAsk a → AreGood (asked_bits plain_bits a) (in_ask s a)
 ask_good s (ask.SessionSetup car) named can =
     good 2500 SESSION_SETUP_REQ setup_req s (car.items, tt) refl (lit≤ tt) named (bytes_fit 6 car.items can.0 can.1, tt)
 ask_good s ask.ServiceDiscovery named can = good 2500 SERVICE_DISCOVERY_REQ nothing s tt refl (lit≤ tt) named tt
 ask_good s (ask.ServiceDetail service) named can = good 2500 SERVICE_DETAIL_REQ service_row s (service, tt) refl (lit≤ tt) named (can, tt)
 ask_good s (ask.PaymentSelection external services) named can =
     good 2500 PAYMENT_SERVICE_SELECTION_REQ selection_req s (external, (services.items, tt)) refl (lit≤ tt) named
-    (second_small external, ((can.0.0, can.0.1, services_fit services.items can.1, tt), tt))
+    (second_small external, (services_fit services can, tt))
 ask_good s ask.Authorization named can = good 2500 AUTHORIZATION_REQ nothing s tt refl (lit≤ tt) named tt
 ask_good s (ask.ChargeParameters mode l) named can =
     good 2500 CHARGE_PARAMETER_DISCOVERY_REQ parameters_req s (mode, (car_parts l, tt)) refl (lit≤ tt) named
@@ -289,9 +260,9 @@ parameters_good : (most entries : ℕ) (s : SessionId) (c : Code) (p : Processin
 parameters_good most entries s c p schedule l fit few named can up_to =
     good most CHARGE_PARAMETER_DISCOVERY_RES (parameters_res_up_to entries) s
     (c, (p, (option_map (λ tuples. tuples.items) schedule, (limit_parts l, tt)))) fit few named
-    (code_small c, (step_small p, (schedules_fit entries schedule can.0 up_to, (post_limits_fit l can.1, tt))))
+    (code_small c, (step_small p, (schedules_fit CanTuple kinds SA_SCHEDULE_TUPLE entries (tuple_up_to entries) (tuple_fits entries) schedule can.0 up_to, (post_limits_fit l can.1, tt))))
 
-tell_good : (s : SessionId) (c : Code) (t : Tell) → CanSession s → CanTell t → AreGood (told_bits t) (in_tell s c t)
+tell_good : (s : SessionId) (c : Code) (t : Tell) → CanSession s → CanTell t → AreGood (told_bits plain_bits t) (in_tell s c t)
 tell_good s c (tell.SessionSetup (evse_id.Text id)) named can =
     good 2500 SESSION_SETUP_RES setup_res s (c, (id, tt)) refl (lit≤ tt) named (code_small c, (text_fits 37 id can.0 can.1, tt))
 tell_good s c (tell.SessionSetup (evse_id.Bytes id)) named can = tt
@@ -305,7 +276,7 @@ tell_good s c tell.PaymentSelection named can =
 tell_good s c (tell.Authorization p) named can =
     good 2500 AUTHORIZATION_RES authorization_res s (c, (p, tt)) refl (lit≤ tt) named (code_small c, (step_small p, tt))
 tell_good s c (tell.ChargeParameters p schedule l) named can =
-    parameters_good 160000 128 s c p schedule l refl (lit≤ tt) named can (declared_few schedule can.0)
+    parameters_good 160000 128 s c p schedule l refl (lit≤ tt) named can (declared_few CanTuple 128 (λ t own. own.entries.1) schedule can.0)
 tell_good s c (tell.CableCheck status p) named can =
     good 2500 CABLE_CHECK_RES cable_check_res s (c, (status, (p, tt))) refl (lit≤ tt) named (code_small c, (status_fits status, (step_small p, tt)))
 tell_good s c (tell.PreCharge status v) named can =
@@ -349,19 +320,15 @@ tell_good s c (tell.WeldingDetection status v) named can =
     good 2500 WELDING_DETECTION_RES present_voltage s (c, (status, (v, tt))) refl (lit≤ tt) named (code_small c, (status_fits status, (voltage_fits v can, tt)))
 tell_good s c tell.SessionStop named can = good 2500 SESSION_STOP_RES code_alone s (c, tt) refl (lit≤ tt) named (code_small c, tt)
 
-pub word_good : (w : Word) → CanSpell w → AreGood (most_bits w) (in_word w)
+pub word_good : (w : Word) → CanSpell w → AreGood (most_bits plain_bits w) (in_word w)
 word_good (word.Request r) can = ask_good r.session r.ask can.0 can.1
 word_good (word.Reply r) can = tell_good r.session r.code r.tell can.0 can.2
 word_good word.Nothing can = tt
 
 -- ---- with few entries
 
-abbrev pub few_bits : Option Inside → Type 0
-few_bits own = IfSome own (λ i. inside_weight 6 i ≤ 8000)
-
 fewer : (n : ℕ) (o : Option Inside) → n ≤ 8000 → AreGood n o → few_bits o
-fewer n None h g = tt
-fewer n (Some own) h g = let few : inside_weight 6 own ≤ n = g.few in omega arith
+fewer n o h good = frames.fewer kinds V2G_MESSAGE_KIND n o h good
 
 brief_tell : (s : SessionId) (c : Code) (t : Tell) → CanSession s → CanTell t → HasEntries 1 t → few_bits (in_tell s c t)
 brief_tell s c (tell.ChargeParameters p schedule l) named can few =
@@ -369,9 +336,7 @@ brief_tell s c (tell.ChargeParameters p schedule l) named can few =
 brief_tell s c other named can few = fewer 2500 (in_tell s c other) (lit≤ tt) (tell_good s c other named can)
 
 brief_ask : (s : SessionId) (a : Ask) → CanSession s → CanAsk a → few_bits (in_ask s a)
-brief_ask s (ask.PowerDelivery p tuple watts) named can =
-    fewer 8000 (in_ask s (ask.PowerDelivery p tuple watts)) (lit≤ tt) (ask_good s (ask.PowerDelivery p tuple watts) named can)
-brief_ask s other named can = fewer 2500 (in_ask s other) (lit≤ tt) (ask_good s other named can)
+brief_ask s a named can = fewer (asked_bits plain_bits a) (in_ask s a) (asked_few plain_bits (lit≤ tt) a) (ask_good s a named can)
 
 pub brief_bits : (w : Word) → CanSpell w → IsBrief w → few_bits (in_word w)
 brief_bits (word.Request r) can few = brief_ask r.session r.ask can.0 can.1

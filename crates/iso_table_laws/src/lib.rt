@@ -5,15 +5,16 @@
 //! are dropped; it can be written, and is short; where no schedule has more than one entry, a room of 1,024 bytes holds it.
 #![tactic(auto)]
 
-ghost use Rattle.iso_table_laws.specs.Laws.{ReadsAsOne, ReadsBack, IsSpelled, IsShort, FitsRoom};
+ghost use Rattle.message_tables.specs.Laws.{ReadsAsOne, ReadsBack, IsSpelled, IsShort, FitsRoom};
+ghost use Rattle.iso_table_laws.specs.Laws.{dialect};
 
 /// A payload reads as one word at most. What is written for a word that can be spelled reads as that word, but for watts that are dropped;
 /// it can be written, and has no more than 320 bytes, or 1,024 with a profile and 20,480 with schedules. Where no schedule has more than one
 /// entry, its bits are no more than 1,024 bytes hold.
 pub fn payloads_have_words()
-    ensures one { ReadsAsOne }
-    ensures back { ReadsBack }
-    ensures spelled { IsSpelled }
-    ensures short { IsShort }
-    ensures room { FitsRoom }
+    ensures one { ReadsAsOne dialect }
+    ensures back { ReadsBack dialect }
+    ensures spelled { IsSpelled dialect }
+    ensures short { IsShort dialect }
+    ensures room { FitsRoom dialect }
 {}

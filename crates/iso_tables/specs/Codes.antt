@@ -1,6 +1,6 @@
 -- ISO 15118-2:2014 8.5 (data types): enumerations in elements, as words have them. Those that DIN SPEC 70121 numbers alike are in
 -- `message_tables`.
-use Rattle.std.specs.Prelude.{ℕ, Bool, List, [], ◌∷◌}
+use Rattle.std.specs.Prelude.{ℕ, Bool, List, [], ◌∷◌, ◌++◌}
 use Rattle.charge_world.specs.declared.heard.IsolationLevel.{IsolationLevel}
 use Rattle.charge_world.specs.declared.heard.IsolationLevel.TheVariants as level
 use Rattle.session_words.specs.declared.code.Code.{Code}
@@ -44,41 +44,18 @@ status_code = alike.status_code EVSE_STATUS_CODE_KIND
 
 abbrev pub codes : List Code
 codes =
-    code.Ok ∷ code.OkNewSessionEstablished ∷ code.OkOldSessionJoined ∷ code.OkCertificateExpiresSoon ∷ code.Failed
-    ∷ code.FailedSequenceError ∷ code.FailedServiceIdInvalid ∷ code.FailedUnknownSession ∷ code.FailedServiceSelectionInvalid
-    ∷ code.FailedPaymentSelectionInvalid ∷ code.FailedCertificateExpired ∷ code.FailedSignatureError ∷ code.FailedNoCertificateAvailable
-    ∷ code.FailedCertChainError ∷ code.FailedChallengeInvalid ∷ code.FailedContractCanceled ∷ code.FailedWrongChargeParameter
-    ∷ code.FailedPowerDeliveryNotApplied ∷ code.FailedTariffSelectionInvalid ∷ code.FailedChargingProfileInvalid
-    ∷ code.FailedMeteringSignatureNotValid ∷ code.FailedNoChargeServiceSelected ∷ code.FailedWrongEnergyTransferMode
+    alike.codes
+    ++ code.FailedMeteringSignatureNotValid ∷ code.FailedNoChargeServiceSelected ∷ code.FailedWrongEnergyTransferMode
     ∷ code.FailedContactorError ∷ code.FailedCertificateNotAllowedAtThisEvse ∷ code.FailedCertificateRevoked ∷ []
 
 abbrev pub code_number : Code → ℕ
-code_number code.Ok = 0
-code_number code.OkNewSessionEstablished = 1
-code_number code.OkOldSessionJoined = 2
-code_number code.OkCertificateExpiresSoon = 3
-code_number code.FailedSequenceError = 5
-code_number code.FailedServiceIdInvalid = 6
-code_number code.FailedUnknownSession = 7
-code_number code.FailedServiceSelectionInvalid = 8
-code_number code.FailedPaymentSelectionInvalid = 9
-code_number code.FailedCertificateExpired = 10
-code_number code.FailedSignatureError = 11
-code_number code.FailedNoCertificateAvailable = 12
-code_number code.FailedCertChainError = 13
-code_number code.FailedChallengeInvalid = 14
-code_number code.FailedContractCanceled = 15
-code_number code.FailedWrongChargeParameter = 16
-code_number code.FailedPowerDeliveryNotApplied = 17
-code_number code.FailedTariffSelectionInvalid = 18
-code_number code.FailedChargingProfileInvalid = 19
 code_number code.FailedMeteringSignatureNotValid = 20
 code_number code.FailedNoChargeServiceSelected = 21
 code_number code.FailedWrongEnergyTransferMode = 22
 code_number code.FailedContactorError = 23
 code_number code.FailedCertificateNotAllowedAtThisEvse = 24
 code_number code.FailedCertificateRevoked = 25
-code_number other = 4
+code_number other = alike.code_number other
 
 abbrev pub response_code : Table inside Code
 response_code = one_of_names codes code.Ok code_number RESPONSE_CODE_KIND

@@ -1,6 +1,6 @@
 -- ISO 15118-2:2014 8.4.3.8 (ChargeParameterDiscovery): what stands where in it, and what it asks or tells. Of a schedule a word has the
 -- count of its entries and the least power, right where all its units are. They are written from one second to the next, each for a day.
-use Rattle.std.specs.Prelude.{ℕ, map, length, ℤ, pos, List, Option, ◌⊎◌}
+use Rattle.std.specs.Prelude.{ℕ, map, length, ℤ, pos, List, Option, Some, ◌⊎◌}
 use Rattle.std.proofs.Common.{inl, inr}
 use Rattle.std.specs.List.{list_all}
 use Rattle.std.specs.Option.{option_map}
@@ -23,8 +23,9 @@ use Rattle.iso_schema.specs.declared.names.TheConstants.{RESPONSE_CODE, EVSE_PRO
 use Rattle.iso_schema.specs.declared.kinds.TheConstants.{TUPLE_ID_KIND, INTERVAL_START_KIND, INTERVAL_DURATION_KIND}
 use Rattle.word_tables.specs.Tables.{Table, inside, rows, natural, integer, simple, holding, meaning, nothing, once, perhaps, either, always, ◌▷◌}
 use Rattle.message_tables.specs.Values.{list_of, Entry, entries_of, least_of}
+use Rattle.message_tables.specs.Meanings.{CarStatus}
 use Rattle.iso_tables.specs.Codes.{response_code, step, wanted_mode}
-use Rattle.iso_tables.specs.Values.{physical, current, voltage, nominal, power, some_power, CarStatus, car_status, ac_status, dc_status}
+use Rattle.iso_tables.specs.Values.{Physical, physical, current, voltage, nominal, power_in, spelled_power, power, some_power, car_status, ac_status, dc_status}
 
 -- ---- of a car: where limits of both currents stand, those of AC count
 
@@ -76,14 +77,32 @@ parameters_asked x = ask.ChargeParameters x.0 (car_of x.1.0)
 
 -- ---- schedules
 
-abbrev pub schedule_entry : Table inside Entry
-schedule_entry = holding (
+-- an entry with all that it has: from which second on, and for how many; and the power
+abbrev pub EntryRows : Type 0
+EntryRows = (ℕ × (Option ℕ × Unit {0})) × (Physical × Unit {0})
+
+abbrev pub entry_rows : Table inside EntryRows
+entry_rows = holding (
     once RELATIVE_TIME_INTERVAL (holding (
     once START (simple natural INTERVAL_START_KIND)
-    ▷ always DURATION (simple natural INTERVAL_DURATION_KIND) 86400
+    ▷ perhaps DURATION (simple natural INTERVAL_DURATION_KIND)
     ▷ nothing))
-    ▷ once P_MAX power
+    ▷ once P_MAX physical
     ▷ nothing)
+
+abbrev pub schedule_entry : Table inside Entry
+schedule_entry =
+    meaning (λ x. ((x.0.0, tt), (power_in x.1.0, tt))) (λ e. ((e.0.0, (Some 86400, tt)), (spelled_power e.1.0, tt))) entry_rows
+
+-- a tuple of up to so many such entries, and a list of such tuples
+abbrev pub tuple_rows : {E : Type 0} → ℕ → Table inside E → Table inside (ℤ × (List E × Unit {0}))
+tuple_rows most entry = holding (
+    once SA_SCHEDULE_TUPLE_ID (simple integer TUPLE_ID_KIND)
+    ▷ once P_MAX_SCHEDULE (list_of P_MAX_SCHEDULE_ENTRY 1 most entry)
+    ▷ nothing)
+
+abbrev pub tuples : {T : Type 0} → Table inside T → Table inside (List T)
+tuples tuple = list_of SA_SCHEDULE_TUPLE 1 3 tuple
 
 abbrev pub least_power : List Entry → Amount
 least_power entries = record {
@@ -96,16 +115,13 @@ tuple_of id entries = record { id = id; entries = length entries; least = least_
 
 -- of up to so many entries: the declarations allow 128
 abbrev pub tuple_up_to : ℕ → Table inside Tuple
-tuple_up_to most = meaning (λ x. tuple_of x.0 x.1.0) (λ t. (t.id, (entries_of t, tt))) (holding (
-    once SA_SCHEDULE_TUPLE_ID (simple integer TUPLE_ID_KIND)
-    ▷ once P_MAX_SCHEDULE (list_of P_MAX_SCHEDULE_ENTRY 1 most schedule_entry)
-    ▷ nothing))
+tuple_up_to most = meaning (λ x. tuple_of x.0 x.1.0) (λ t. (t.id, (entries_of t, tt))) (tuple_rows most schedule_entry)
 
 abbrev pub tuple : Table inside Tuple
 tuple = tuple_up_to 128
 
 abbrev pub schedules_up_to : ℕ → Table inside (List Tuple)
-schedules_up_to most = list_of SA_SCHEDULE_TUPLE 1 3 (tuple_up_to most)
+schedules_up_to most = tuples (tuple_up_to most)
 
 abbrev pub schedules : Table inside (List Tuple)
 schedules = schedules_up_to 128
@@ -152,18 +168,22 @@ PostRow = (AcPost ⊎ DcPost) × Unit {0}
 abbrev pub post_row : Table rows PostRow
 post_row = either AC_EVSE_CHARGE_PARAMETER ac_post DC_EVSE_CHARGE_PARAMETER dc_post ▷ nothing
 
-abbrev pub Parameters : Type 0
-Parameters = Processing × (Option (List Tuple) × PostRow)
+abbrev pub Parameters : Type 0 → Type 0
+Parameters T = Processing × (Option (List T) × PostRow)
 
-abbrev pub parameters_res_up_to : ℕ → Table rows (Code × Parameters)
-parameters_res_up_to most =
+-- with schedules of such tuples
+abbrev pub parameters_with : {T : Type 0} → Table inside T → Table rows (Code × Parameters T)
+parameters_with tuple =
     once RESPONSE_CODE response_code
     ▷ once EVSE_PROCESSING step
-    ▷ perhaps SA_SCHEDULE_LIST (schedules_up_to most)
+    ▷ perhaps SA_SCHEDULE_LIST (tuples tuple)
     ▷ post_row
 
-abbrev pub parameters_res : Table rows (Code × Parameters)
+abbrev pub parameters_res_up_to : ℕ → Table rows (Code × Parameters Tuple)
+parameters_res_up_to most = parameters_with (tuple_up_to most)
+
+abbrev pub parameters_res : Table rows (Code × Parameters Tuple)
 parameters_res = parameters_res_up_to 128
 
-abbrev pub parameters_told : Parameters → Tell
+abbrev pub parameters_told : Parameters Tuple → Tell
 parameters_told x = tell.ChargeParameters x.0 (option_map (λ tuples. record { items = tuples }) x.1.0) (limits_of x.1.1.0)

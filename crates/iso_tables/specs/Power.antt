@@ -5,7 +5,6 @@ use Rattle.std.specs.List.{list_all}
 use Rattle.session_words.specs.declared.amount.Amount.{Amount}
 use Rattle.session_words.specs.declared.code.Code.{Code}
 use Rattle.session_words.specs.declared.code.Notify.{Notify}
-use Rattle.session_words.specs.declared.code.Processing.{Processing}
 use Rattle.session_words.specs.declared.code.Progress.{Progress}
 use Rattle.session_words.specs.declared.limits.DcStatus.{DcStatus}
 use Rattle.session_words.specs.declared.limits.EvseId.TheVariants as evse_id
@@ -19,19 +18,14 @@ use Rattle.iso_schema.specs.declared.names.TheConstants.{RESPONSE_CODE, EVSE_PRO
 use Rattle.iso_schema.specs.declared.kinds.TheConstants.{BOOLEAN_KIND, TUPLE_ID_KIND, UNSIGNED_INT_KIND}
 use Rattle.word_tables.specs.Tables.{Table, inside, rows, flag, natural, integer, simple, holding, meaning, nothing, once, perhaps, either, always, ◌▷◌}
 use Rattle.message_tables.specs.Values.{list_of}
+pub use Rattle.message_tables.specs.Meanings.{CarStatus, Car, Present, cable_check_asked, CableCheck, cable_check_told, PreCharge, pre_charge_asked, pre_charge_told, DemandReq, demand_asked, welding_asked, welding_told}
 use Rattle.iso_tables.specs.Codes.{response_code, step, charge_progress}
-use Rattle.iso_tables.specs.Values.{current, voltage, power, evse, CarStatus, car_status, ac_status, dc_status}
+use Rattle.iso_tables.specs.Values.{current, voltage, power, evse, car_status, ac_status, dc_status}
 
 -- ---- what several have: the status of the car, or of the post and a voltage
 
-abbrev pub Car : Type 0
-Car = CarStatus × Unit {0}
-
 abbrev pub car_alone : Table rows Car
 car_alone = once DC_EV_STATUS car_status ▷ nothing
-
-abbrev pub Present : Type 0
-Present = DcStatus × (Amount × Unit {0})
 
 abbrev pub present_voltage : Table rows (Code × Present)
 present_voltage =
@@ -42,12 +36,6 @@ present_voltage =
 
 -- ---- CableCheck
 
-abbrev pub cable_check_asked : Car → Ask
-cable_check_asked x = ask.CableCheck x.0.0 x.0.1.0
-
-abbrev pub CableCheck : Type 0
-CableCheck = DcStatus × (Processing × Unit {0})
-
 abbrev pub cable_check_res : Table rows (Code × CableCheck)
 cable_check_res =
     once RESPONSE_CODE response_code
@@ -55,13 +43,7 @@ cable_check_res =
     ▷ once EVSE_PROCESSING step
     ▷ nothing
 
-abbrev pub cable_check_told : CableCheck → Tell
-cable_check_told x = tell.CableCheck x.0 x.1.0
-
 -- ---- PreCharge
-
-abbrev pub PreCharge : Type 0
-PreCharge = CarStatus × (Amount × (Amount × Unit {0}))
 
 abbrev pub pre_charge_req : Table rows PreCharge
 pre_charge_req =
@@ -69,12 +51,6 @@ pre_charge_req =
     ▷ once EV_TARGET_VOLTAGE voltage
     ▷ once EV_TARGET_CURRENT current
     ▷ nothing
-
-abbrev pub pre_charge_asked : PreCharge → Ask
-pre_charge_asked x = ask.PreCharge x.0.0 x.0.1.0 x.1.0 x.1.1.0
-
-abbrev pub pre_charge_told : Present → Tell
-pre_charge_told x = tell.PreCharge x.0 x.1.0
 
 -- ---- PowerDelivery: perhaps a profile, of which a word has the greatest power, right where all its units are. It is written as one entry
 -- from second 0 on
@@ -131,9 +107,6 @@ delivery_told x = tell.PowerDelivery (status_told x.0)
 
 -- ---- CurrentDemand: of schedule tuple 1
 
-abbrev pub DemandReq : Type 0
-DemandReq = CarStatus × (Amount × (Amount × Unit {0}))
-
 abbrev pub demand_req : Table rows DemandReq
 demand_req =
     once DC_EV_STATUS car_status
@@ -141,9 +114,6 @@ demand_req =
     ▷ always CHARGING_COMPLETE (simple flag BOOLEAN_KIND) false
     ▷ once EV_TARGET_VOLTAGE voltage
     ▷ nothing
-
-abbrev pub demand_asked : DemandReq → Ask
-demand_asked ((ready, (soc, end)), (current, (voltage, more))) = ask.CurrentDemand ready soc voltage current
 
 abbrev pub Limits : Type 0
 Limits = Option Amount × (Option Amount × (Option Amount × (List ℕ × Unit {0})))
@@ -191,11 +161,3 @@ charging_res =
 
 abbrev pub charging_told : Charging → Tell
 charging_told x = tell.ChargingStatus x.1.1.0 (evse_id.Text x.0) x.1.0
-
--- ---- WeldingDetection
-
-abbrev pub welding_asked : Car → Ask
-welding_asked x = ask.WeldingDetection x.0.0 x.0.1.0
-
-abbrev pub welding_told : Present → Tell
-welding_told x = tell.WeldingDetection x.0 x.1.0

@@ -1,7 +1,6 @@
 -- ISO 15118-2:2014 8.4.3 (messages that set up a session and end it): what stands where in them, and what it asks or tells.
 use Rattle.std.specs.Prelude.{ℕ, Bool, List}
 use Rattle.session_words.specs.declared.code.Code.{Code}
-use Rattle.session_words.specs.declared.code.Processing.{Processing}
 use Rattle.session_words.specs.declared.limits.EvseId.TheVariants as evse_id
 use Rattle.session_words.specs.declared.mode.OfferedMode.{OfferedMode}
 use Rattle.session_words.specs.declared.word.Ask.{Ask}
@@ -12,6 +11,7 @@ use Rattle.iso_schema.specs.declared.names.TheConstants.{RESPONSE_CODE, EVCCID, 
 use Rattle.iso_schema.specs.declared.kinds.TheConstants.{BOOLEAN_KIND, UNSIGNED_SHORT_KIND, BINARY6_KIND, PAYMENT_OPTION_KIND, SERVICE_CATEGORY_KIND}
 use Rattle.word_tables.specs.Tables.{Table, inside, rows, flag, ordinal, natural, simple, holding, nothing, once, always, ◌▷◌}
 use Rattle.message_tables.specs.Values.{some_bytes, only, list_of}
+pub use Rattle.message_tables.specs.Meanings.{SetupReq, setup_asked, Selection, selection_asked, Authorization, authorization_told}
 use Rattle.iso_tables.specs.Codes.{response_code, step, offered_mode, external, pause}
 use Rattle.iso_tables.specs.Values.{evse}
 
@@ -22,14 +22,8 @@ code_alone = once RESPONSE_CODE response_code ▷ nothing
 
 -- ---- SessionSetup
 
-abbrev pub SetupReq : Type 0
-SetupReq = List ℕ × Unit {0}
-
 abbrev pub setup_req : Table rows SetupReq
 setup_req = once EVCCID (some_bytes 8 BINARY6_KIND) ▷ nothing
-
-abbrev pub setup_asked : SetupReq → Ask
-setup_asked x = ask.SessionSetup (record { items = x.0 })
 
 abbrev pub Setup : Type 0
 Setup = List ℕ × Unit {0}
@@ -88,9 +82,6 @@ detail_told x = tell.ServiceDetail x.0
 
 -- ---- PaymentServiceSelection
 
-abbrev pub Selection : Type 0
-Selection = Bool × (List ℕ × Unit {0})
-
 abbrev pub service : Table inside ℕ
 service = only SERVICE_ID (simple natural UNSIGNED_SHORT_KIND)
 
@@ -100,22 +91,13 @@ selection_req =
     ▷ once SELECTED_SERVICE_LIST (list_of SELECTED_SERVICE 1 16 service)
     ▷ nothing
 
-abbrev pub selection_asked : Selection → Ask
-selection_asked x = ask.PaymentSelection x.0 (record { items = x.1.0 })
-
 -- ---- Authorization
-
-abbrev pub Authorization : Type 0
-Authorization = Processing × Unit {0}
 
 abbrev pub authorization_res : Table rows (Code × Authorization)
 authorization_res =
     once RESPONSE_CODE response_code
     ▷ once EVSE_PROCESSING step
     ▷ nothing
-
-abbrev pub authorization_told : Authorization → Tell
-authorization_told x = tell.Authorization x.0
 
 -- ---- SessionStop
 

@@ -11,6 +11,7 @@ use Rattle.word_values.specs.Items.{evse_bytes}
 use Rattle.iso_schema.specs.declared.names.TheConstants.{MULTIPLIER, UNIT, VALUE, EV_READY, EV_ERROR_CODE, EVRESS_SOC, EVSE_ISOLATION_STATUS, EVSE_STATUS_CODE, NOTIFICATION_MAX_DELAY, EVSE_NOTIFICATION, RCD}
 use Rattle.iso_schema.specs.declared.kinds.TheConstants.{BOOLEAN_KIND, SHORT_KIND, UNSIGNED_SHORT_KIND, MULTIPLIER_KIND, PERCENT_KIND, TEXT37_KIND, UNIT_SYMBOL_KIND, EV_ERROR_CODE_KIND}
 use Rattle.word_tables.specs.Tables.{Table, inside, rows, flag, ordinal, natural, integer, text, simple, holding, meaning, nothing, once, perhaps, always, ◌▷◌}
+use Rattle.message_tables.specs.Meanings.{CarStatus}
 use Rattle.iso_tables.specs.Codes.{isolation, notification, status_code}
 
 -- ---- PhysicalValue
@@ -48,8 +49,14 @@ abbrev pub nominal : Table inside Amount
 nominal = tenths 4 written_volts
 
 -- W
+abbrev pub power_in : Physical → Amount
+power_in p = in_watts p.0 p.1.1.0 (p.1.0 == 5)
+
+abbrev pub spelled_power : Amount → Physical
+spelled_power a = spelled (written_watts a.size) (unit_if a.right 5)
+
 abbrev pub power : Table inside Amount
-power = meaning (λ p. in_watts p.0 p.1.1.0 (p.1.0 == 5)) (λ a. spelled (written_watts a.size) (unit_if a.right 5)) physical
+power = meaning power_in spelled_power physical
 
 -- a power that is always there: 0 W where a word has none
 abbrev pub or_no_power : Option Amount → Amount
@@ -65,9 +72,6 @@ abbrev pub evse : Table inside (List ℕ)
 evse = meaning evse_bytes chars (simple text TEXT37_KIND)
 
 -- ---- DC_EVStatus: whether the car is ready, and how full it is in percent; it has no error
-
-abbrev pub CarStatus : Type 0
-CarStatus = Bool × (ℕ × Unit {0})
 
 abbrev pub car_status : Table inside CarStatus
 car_status = holding (

@@ -1,5 +1,5 @@
 -- ISO 15118-2:2014, 8.5.3.1 and 8.5.4.1 (the statuses of posts) and 8.5.4.2 (that of a car), as words have them.
-use Rattle.std.specs.Prelude.{ℕ, Bool, false, Option, pos}
+use Rattle.std.specs.Prelude.{ℕ, Bool, false}
 use Rattle.std.specs.Option.{option_map}
 use Rattle.iso_parts.specs.declared.enumerations.EvErrorCode.TheVariants.{NoError}
 use Rattle.iso_parts.specs.declared.values.AcEvseStatus.{AcEvseStatus}

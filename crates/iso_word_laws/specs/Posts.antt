@@ -1,5 +1,5 @@
 -- Own: each reply that a post gives in ISO 15118-2:2014 can be spelled.
-use Rattle.std.specs.Prelude.{◌≡◌, ℕ, ◌≤◌}
+use Rattle.std.specs.Prelude.{◌≡◌, ℕ}
 use Rattle.charge_world.specs.declared.offer.Dialect.TheVariants as dialect
 use Rattle.session_words.specs.Plans.{IsPostPlan}
 use Rattle.session_words.specs.declared.facts.Facts.{Facts}
@@ -10,12 +10,9 @@ use Rattle.session_words.specs.declared.word.Request.{Request}
 use Rattle.session_words.specs.declared.word.Word.TheVariants as word
 use Rattle.session_rules.specs.declared.stage.Stage.{Stage}
 use Rattle.session_rules.specs.Reply.{reply_to, waiting_reply}
+use Rattle.written_words.specs.Posts.{ArePostBounds}
 use Rattle.written_words.specs.Typed.{IsTyped}
 use Rattle.iso_word_messages.specs.Spellable.{IsService, CanSession, CanSpell}
-
--- what tenths of a plan and of facts are
-abbrev pub IsTenths : ℕ → Type 0
-IsTenths n = n ≤ 30000
 
 abbrev pub IsServiceOf : Ask → Type 0
 IsServiceOf (ask.ServiceDetail service) = IsService service
@@ -26,15 +23,7 @@ pub record IsBounded (s : Stage) (facts : Facts) (plan : PostPlan) (r : Request)
   pub session : CanSession s.session
   pub named : CanSession r.session
   pub service : IsServiceOf r.ask
-  pub voltage : IsTenths facts.voltage
-  pub current : IsTenths facts.current
-  pub max_voltage : IsTenths plan.max_voltage
-  pub min_voltage : IsTenths plan.min_voltage
-  pub max_current : IsTenths plan.max_current
-  pub min_current : IsTenths plan.min_current
-  pub ripple : IsTenths plan.ripple
-  pub told : s.told ≤ 1000000
-  pub most : shown ≤ 1000000
+  pub post : ArePostBounds s facts plan shown
 
 abbrev pub SpellsReplies : Type 0
 SpellsReplies = (s : Stage) (facts : Facts) (plan : PostPlan) (r : Request) (shown : ℕ)
@@ -42,18 +31,6 @@ SpellsReplies = (s : Stage) (facts : Facts) (plan : PostPlan) (r : Request) (sho
 
 abbrev pub SpellsWaiting : Type 0
 SpellsWaiting = (s : Stage) (facts : Facts) (plan : PostPlan) → CanSession s.session → CanSpell (word.Reply (waiting_reply s facts plan))
-
--- what the types of a post bound, and watts that it may tell
-pub record ArePostBounds (s : Stage) (facts : Facts) (plan : PostPlan) (shown : ℕ) : Type 0 where
-  pub voltage : IsTenths facts.voltage
-  pub current : IsTenths facts.current
-  pub max_voltage : IsTenths plan.max_voltage
-  pub min_voltage : IsTenths plan.min_voltage
-  pub max_current : IsTenths plan.max_current
-  pub min_current : IsTenths plan.min_current
-  pub ripple : IsTenths plan.ripple
-  pub told : s.told ≤ 1000000
-  pub most : shown ≤ 1000000
 
 -- the same, where the types of the reply itself bound what it has of the session and of the request
 abbrev pub SpellsTyped : Type 0

@@ -1,6 +1,6 @@
 -- Own: a word that the declarations of ISO 15118-2:2014 can spell: its codes and modes are ISO's, its lists within their bounds, its
 -- numbers within their ranges, and its amounts such that a Value of 16 bits with a sign and a Multiplier write them.
-use Rattle.std.specs.Prelude.{◌≡◌, ℕ, ◌<◌, ◌≤◌, Bool, true, IsTrue, List, All, length, ℤ, pos, ◌≤ℤ◌, IfSome, Option, Some, None}
+use Rattle.std.specs.Prelude.{◌<◌, ◌≤◌, IsTrue, All, length, ℤ, pos, ◌≤ℤ◌, IfSome, Option, Some, None}
 use Rattle.session_words.specs.declared.amount.Amount.{Amount}
 use Rattle.session_words.specs.declared.limits.CarLimits.{CarLimits}
 use Rattle.session_words.specs.declared.limits.CarLimits.TheVariants as car
@@ -9,7 +9,6 @@ use Rattle.session_words.specs.declared.limits.EvseId.TheVariants as evse
 use Rattle.session_words.specs.declared.limits.PostLimits.{PostLimits}
 use Rattle.session_words.specs.declared.limits.PostLimits.TheVariants as post
 use Rattle.session_words.specs.declared.limits.Tuple.{Tuple}
-use Rattle.session_words.specs.declared.session.SessionId.{SessionId}
 use Rattle.session_words.specs.declared.word.Ask.{Ask}
 use Rattle.session_words.specs.declared.word.Ask.TheVariants as ask
 use Rattle.session_words.specs.declared.word.Tell.{Tell}
@@ -19,27 +18,7 @@ use Rattle.session_words.specs.declared.word.Word.TheVariants as word
 use Rattle.arrayvec.specs.ArrayVec.{ArrayVec}
 use Rattle.iso_values.specs.Codes.{is_iso_code}
 use Rattle.iso_values.specs.Modes.{is_iso_mode}
-use Rattle.word_values.specs.Amounts.{can_write_tenths}
-
--- tenths that some Multiplier from -1 to 3 gives exactly
-abbrev pub AreTenths : Amount → Type 0
-AreTenths amount = IsTrue (can_write_tenths amount.size)
-
--- watts that a Value and a Multiplier up to 3 write, but for what is dropped
-abbrev pub AreWatts : Amount → Type 0
-AreWatts amount = amount.size < 32768000
-
-abbrev pub IsByte : ℕ → Type 0
-IsByte byte = byte < 256
-
-abbrev pub IsService : ℕ → Type 0
-IsService number = number ≤ 65535
-
-abbrev pub IsCharge : ℕ → Type 0
-IsCharge soc = soc ≤ 100
-
-abbrev pub IsFromTo : ℕ → ℕ → ℕ → Type 0
-IsFromTo least most n = (least ≤ n) × (n ≤ most)
+pub use Rattle.message_tables.specs.Spellable.{AreTenths, AreWatts, IsByte, IsService, IsCharge, IsFromTo, AreBytes, AreServices, AreTuples, CanSession}
 
 -- the number of a schedule tuple
 abbrev pub IsTupleNumber : ℤ → Type 0
@@ -56,9 +35,9 @@ IsSomeTuple None = ⊥
 IsSomeTuple (Some id) = IsTupleNumber id
 
 abbrev pub CanAsk : Ask → Type 0
-CanAsk (ask.SessionSetup car) = (length car.items ≤ 6) × All IsByte car.items
+CanAsk (ask.SessionSetup car) = AreBytes 6 car
 CanAsk (ask.ServiceDetail service) = IsService service
-CanAsk (ask.PaymentSelection external services) = IsFromTo 1 16 (length services.items) × All IsService services.items
+CanAsk (ask.PaymentSelection external services) = AreServices services
 CanAsk (ask.ChargeParameters mode limits) = CanCarLimits limits
 CanAsk (ask.CableCheck ready soc) = IsCharge soc
 CanAsk (ask.PreCharge ready soc voltage current) = IsCharge soc × AreTenths voltage × AreTenths current
@@ -84,7 +63,7 @@ pub record CanTuple (t : Tuple) : Type 0 where
   pub least : AreWatts t.least
 
 abbrev pub CanTuples : ArrayVec Tuple → Type 0
-CanTuples tuples = IsFromTo 1 3 (length tuples.items) × All CanTuple tuples.items
+CanTuples tuples = AreTuples CanTuple tuples
 
 abbrev pub IsSomeWatts : Option Amount → Type 0
 IsSomeWatts None = ⊥
@@ -109,9 +88,6 @@ CanTell (tell.WeldingDetection status voltage) = AreTenths voltage
 CanTell other = Unit {0}
 
 -- ---- words
-
-abbrev pub CanSession : SessionId → Type 0
-CanSession session = (length session.bytes.items ≤ 8) × All IsByte session.bytes.items
 
 abbrev pub CanSpell : Word → Type 0
 CanSpell (word.Request r) = CanSession r.session × CanAsk r.ask

@@ -2,7 +2,6 @@
 
 ghost use Rattle.std.specs.Prelude.{◌≡◌, IfSome, Some};
 ghost use Rattle.exi_bits.specs.Lent.{items_of};
-ghost use Rattle.session_words.specs.declared.word.Ask.TheVariants as asks;
 ghost use Rattle.session_words.specs.declared.word.Tell.TheVariants as tells;
 ghost use Rattle.session_words.specs.declared.word.Word.TheVariants as words;
 ghost use Rattle.iso_message.specs.declared.message.BodyElement.TheVariants.{Brief};

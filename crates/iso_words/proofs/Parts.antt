@@ -16,8 +16,8 @@ use Rattle.session_words.specs.declared.limits.Tuple.{Tuple}
 use Rattle.session_words.specs.declared.word.Ask.TheVariants as ask
 use Rattle.session_words.specs.declared.word.Tell.TheVariants as tell
 use Rattle.tree_words.specs.Named.{children}
-use Rattle.tree_words.proofs.Held.{kept_each, held, children_held}
-use Rattle.tree_words.proofs.Lists.{reads_each, counts_each, ◌⊛◌}
+use Rattle.tree_words.proofs.Held.{kept_each, children_held}
+use Rattle.tree_words.proofs.Lists.{counts_each, ◌⊛◌}
 use Rattle.word_values.specs.Items.{evse_text_of}
 use Rattle.iso_parts.specs.Codes.{energy_transfer_mode_ordinal, evse_processing_ordinal, charge_progress_ordinal}
 use Rattle.iso_parts.specs.declared.codes.ChargeProgress.{ChargeProgress}
@@ -71,12 +71,14 @@ use Rattle.iso_values.specs.Physical.{voltage_in, current_in, power_in}
 use Rattle.iso_values.specs.States.{notify_of}
 use Rattle.iso_values.specs.Statuses.{dc_status_of, post_status_of}
 use Rattle.word_tables.specs.Tables.{read}
+use Rattle.word_tables.proofs.Held.{parts_read, held_read}
 use Rattle.message_tables.specs.Values.{list_of, least_of}
+use Rattle.message_tables.proofs.Lists.{list_read}
 use Rattle.iso_tables.specs.Codes.{step, wanted_mode, offered_mode, charge_progress}
 use Rattle.iso_tables.specs.Setup.{service, charge_service, discovery_res, discovery_told}
 use Rattle.iso_tables.specs.Power.{profile_entry, most_of, profile, delivery_req, delivery_asked, delivery_res, delivery_told, demand_req, demand_asked, demand_res, demand_told, charging_res, charging_told}
 use Rattle.iso_tables.specs.Parameters.{ac_car, dc_car, car_of, car_row, parameters_req, parameters_asked, schedule_entry, tuple_of, tuple, schedules, dc_post, limits_of, post_row, parameters_res, parameters_told}
-use Rattle.iso_words.proofs.Values.{parts_read, held_read, voltage_read, current_read, power_read, voltages_read, currents_read, powers_read, offered_read, ac_status_read, status_read}
+use Rattle.iso_words.proofs.Values.{voltage_read, current_read, power_read, voltages_read, currents_read, powers_read, offered_read, ac_status_read, status_read}
 
 -- ---- services
 
@@ -85,15 +87,12 @@ service_id s = s.service_id
 
 pub services_read : (l : SelectedServiceList)
     → read (list_of SELECTED_SERVICE 1 16 service) (holding (selected_service_list_parts l)) ≡ map service_id l.selected_service.items
-services_read l =
-    ap (λ c. map (λ i. read service i) (c SELECTED_SERVICE)) (children_held [] (selected_service_list_parts l))
-    ∙ reads_each (λ i. read service i) (λ s. holding (selected_service_parts s)) service_id (λ s. refl) l.selected_service.items
+services_read l = list_read SELECTED_SERVICE 1 16 service (λ s. holding (selected_service_parts s)) service_id (λ s. refl) l.selected_service.items
 
 pub modes_read : (l : SupportedEnergyTransferMode)
     → read (list_of ENERGY_TRANSFER_MODE 1 6 offered_mode) (holding (supported_energy_transfer_mode_parts l)) ≡ map offered_of l.energy_transfer_mode.items
 modes_read l =
-    ap (λ c. map (λ i. read offered_mode i) (c ENERGY_TRANSFER_MODE)) (children_held [] (supported_energy_transfer_mode_parts l))
-    ∙ reads_each (λ i. read offered_mode i) (λ m. Of (Ordinal (energy_transfer_mode_ordinal m))) offered_of offered_read l.energy_transfer_mode.items
+    list_read ENERGY_TRANSFER_MODE 1 6 offered_mode (λ m. Of (Ordinal (energy_transfer_mode_ordinal m))) offered_of offered_read l.energy_transfer_mode.items
 
 service_read : (s : ChargeService) → read charge_service (holding (charge_service_parts s))
     ≡ (s.free_service, (map offered_of s.supported_energy_transfer_mode.energy_transfer_mode.items, tt))
@@ -227,9 +226,7 @@ abbrev pub tuple_in : SaScheduleTuple → Tuple
 tuple_in t = read tuple (holding (sa_schedule_tuple_parts t))
 
 pub schedules_read : (l : SaScheduleList) → read schedules (holding (sa_schedule_list_parts l)) ≡ map tuple_in l.sa_schedule_tuple.items
-schedules_read l =
-    ap (λ c. map (λ i. read tuple i) (c SA_SCHEDULE_TUPLE)) (children_held [] (sa_schedule_list_parts l))
-    ∙ reads_each (λ i. read tuple i) (λ t. holding (sa_schedule_tuple_parts t)) tuple_in (λ t. refl) l.sa_schedule_tuple.items
+schedules_read l = list_read SA_SCHEDULE_TUPLE 1 3 tuple (λ t. holding (sa_schedule_tuple_parts t)) tuple_in (λ t. refl) l.sa_schedule_tuple.items
 
 -- ---- what a car can take
 

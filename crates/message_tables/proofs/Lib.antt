@@ -1,4 +1,5 @@
 pub mod Numbers
-pub mod Read
+pub mod Lists
+pub mod Schedules
 pub mod Frames
 pub mod Payloads

@@ -1,6 +1,8 @@
 -- ISO 15118-2:2014 8.5 and DIN SPEC 70121:2014 9.5 (data types): enumerations that both dialects number alike, as words have them. Each
 -- takes the number of its kind.
 use Rattle.std.specs.Prelude.{ℕ, Bool, true, false, List, [], ◌∷◌}
+use Rattle.session_words.specs.declared.code.Code.{Code}
+use Rattle.session_words.specs.declared.code.Code.TheVariants as code
 use Rattle.session_words.specs.declared.code.Notify.{Notify}
 use Rattle.session_words.specs.declared.code.Notify.TheVariants as notify
 use Rattle.session_words.specs.declared.code.StatusCode.{StatusCode}
@@ -47,6 +49,38 @@ status_names =
 
 abbrev pub status_code : ℕ → Table inside StatusCode
 status_code kind = one_of_names status_names status.EvseNotReady status_number kind
+
+-- ---- ResponseCode: those that both dialects have stand first but for one. Others are written as FAILED
+
+abbrev pub code_number : Code → ℕ
+code_number code.Ok = 0
+code_number code.OkNewSessionEstablished = 1
+code_number code.OkOldSessionJoined = 2
+code_number code.OkCertificateExpiresSoon = 3
+code_number code.FailedSequenceError = 5
+code_number code.FailedServiceIdInvalid = 6
+code_number code.FailedUnknownSession = 7
+code_number code.FailedServiceSelectionInvalid = 8
+code_number code.FailedPaymentSelectionInvalid = 9
+code_number code.FailedCertificateExpired = 10
+code_number code.FailedSignatureError = 11
+code_number code.FailedNoCertificateAvailable = 12
+code_number code.FailedCertChainError = 13
+code_number code.FailedChallengeInvalid = 14
+code_number code.FailedContractCanceled = 15
+code_number code.FailedWrongChargeParameter = 16
+code_number code.FailedPowerDeliveryNotApplied = 17
+code_number code.FailedTariffSelectionInvalid = 18
+code_number code.FailedChargingProfileInvalid = 19
+code_number other = 4
+
+abbrev pub codes : List Code
+codes =
+    code.Ok ∷ code.OkNewSessionEstablished ∷ code.OkOldSessionJoined ∷ code.OkCertificateExpiresSoon ∷ code.Failed
+    ∷ code.FailedSequenceError ∷ code.FailedServiceIdInvalid ∷ code.FailedUnknownSession ∷ code.FailedServiceSelectionInvalid
+    ∷ code.FailedPaymentSelectionInvalid ∷ code.FailedCertificateExpired ∷ code.FailedSignatureError ∷ code.FailedNoCertificateAvailable
+    ∷ code.FailedCertChainError ∷ code.FailedChallengeInvalid ∷ code.FailedContractCanceled ∷ code.FailedWrongChargeParameter
+    ∷ code.FailedPowerDeliveryNotApplied ∷ code.FailedTariffSelectionInvalid ∷ code.FailedChargingProfileInvalid ∷ []
 
 -- ---- EnergyTransferMode, as a car asks for it
 

@@ -3,7 +3,7 @@
 //! Proved: `numbers_are_those_of_names`: the values of an enumeration that both dialects number alike are told apart by their numbers.
 #![tactic(auto)]
 
-ghost use Rattle.std.specs.Prelude.{◌≡◌, ◌<◌, get_or, length, Bool, false, true, [], ◌∷◌};
+ghost use Rattle.std.specs.Prelude.{◌≡◌, ◌<◌, get_or, Bool, false, true, [], ◌∷◌};
 ghost use Rattle.session_words.specs.declared.code.Notify.{Notify};
 ghost use Rattle.session_words.specs.declared.code.Notify.TheVariants as notify;
 ghost use Rattle.session_words.specs.declared.code.StatusCode.{StatusCode};

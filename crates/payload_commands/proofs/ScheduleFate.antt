@@ -10,8 +10,8 @@ use Rattle.schedules.specs.declared.power.Need.{Need}
 use Rattle.schedules.specs.declared.power.Profile.{Profile}
 use Rattle.charging_files.specs.ScheduleKeys.{need_rules}
 use Rattle.charging_files.specs.ScheduleFiles.{IsNeedIn, IsNeedOf, need_fault, need_told}
-use Rattle.schedule_answers.specs.declared.choosing.ScheduleFault.{ScheduleFault}
-use Rattle.schedule_answers.specs.Answers.{IsAnswerIn, IsFaultIn}
+use Rattle.service_messages.specs.ScheduleFault.{ScheduleFault}
+use Rattle.service_messages.specs.Answers.{IsAnswerIn, IsFaultIn}
 use Rattle.charging_files.specs.FileLines.{IsRefusedBy}
 use Rattle.charging_files.proofs.Told.{none_is_some, one_key}
 use Rattle.payload_commands.proofs.HexTexts.{OneRefusal, same_ok, same_payload, no_place, one_place}

@@ -3,7 +3,7 @@ use Rattle.std.proofs.Common.{◌≡◌, ◌⊎◌, ℕ, List, Option, Some, ref
 use Rattle.plan_files.specs.FileTexts.{Told}
 use Rattle.command_status.specs.declared.status.Status.TheVariants as status
 use Rattle.charging_files.specs.ScheduleFiles.{IsNeedOf, need_told}
-use Rattle.schedule_answers.specs.declared.choosing.ScheduleFault.TheVariants as none
+use Rattle.service_messages.specs.ScheduleFault.TheVariants as none
 use Rattle.charging_files.specs.FileLines.{IsRefusedBy}
 use Rattle.charging_files.proofs.Told.{never}
 use Rattle.command_status.specs.declared.status.Status.{Status}

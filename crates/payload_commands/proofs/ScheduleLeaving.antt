@@ -12,7 +12,7 @@ use Rattle.schedules.specs.declared.power.Need.{Need}
 use Rattle.charging_files.specs.ScheduleKeys.{IsNeed}
 use Rattle.charging_files.specs.ScheduleFiles.{IsNeedOf, need_told}
 use Rattle.charging_files.specs.FileLines.{key_of, RefusesBy, Refuses}
-use Rattle.schedule_answers.specs.declared.choosing.ScheduleFault.TheVariants as none
+use Rattle.service_messages.specs.ScheduleFault.TheVariants as none
 use Rattle.charging_files.proofs.Told.{told_fault, was_read, never, same_output}
 use Rattle.payload_commands.specs.declared.answers.NoAnswer.{NoAnswer}
 use Rattle.payload_commands.specs.declared.answers.NoAnswer.TheVariants.{Place, Schedule, Memory}

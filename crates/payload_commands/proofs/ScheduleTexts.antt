@@ -3,8 +3,8 @@ use Rattle.std.proofs.Common.{◌≡◌, ℕ, List, Result, Ok, Err, String, Glo
 use Rattle.std.specs.Prelude.{IfOk, IfErr}
 use Rattle.hex_payloads.specs.HexText.{IsHexOf}
 use Rattle.schedules.specs.declared.power.Need.{Need}
-use Rattle.schedule_answers.specs.Answers.{IsAnswered}
-use Rattle.schedule_answers.specs.declared.answer.Answer.{Answer}
+use Rattle.service_messages.specs.Answers.{IsAnswered}
+use Rattle.service_messages.specs.Answer.{Answer}
 use Rattle.payload_commands.specs.declared.answers.NoAnswer.{NoAnswer}
 use Rattle.payload_commands.specs.declared.answers.NoAnswer.TheVariants.{Place, Schedule, Memory}
 use Rattle.payload_commands.specs.Scheduling.{answer_lines, IsTextOf, IsAnswerText, IsNoAnswerTo, IsNoAnswer}

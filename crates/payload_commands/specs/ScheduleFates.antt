@@ -6,9 +6,9 @@ use Rattle.hex_payloads.specs.HexText.{IsHexOf}
 use Rattle.schedules.specs.declared.power.Need.{Need}
 use Rattle.schedules.specs.declared.power.Profile.{Profile}
 use Rattle.charging_files.specs.ScheduleFiles.{IsNeedOf, need_told}
-use Rattle.schedule_answers.specs.declared.choosing.ScheduleFault.{ScheduleFault}
-use Rattle.schedule_answers.specs.declared.choosing.ScheduleFault.TheVariants as none
-use Rattle.schedule_answers.specs.Answers.{IsAnswerIn, IsRequestIn}
+use Rattle.service_messages.specs.ScheduleFault.{ScheduleFault}
+use Rattle.service_messages.specs.ScheduleFault.TheVariants as none
+use Rattle.service_messages.specs.Answers.{IsAnswerIn, IsRequestIn}
 use Rattle.charging_files.specs.FileLines.{IsRefusedBy}
 use Rattle.command_status.specs.declared.status.Status.{Status}
 use Rattle.command_status.specs.Told.{SinkTold, TellsLine, Prints}

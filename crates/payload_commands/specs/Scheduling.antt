@@ -6,9 +6,9 @@ use Rattle.exi_documents.specs.declared.refusal.RefusalCause.{RefusalCause}
 use Rattle.iso_message.specs.Documents.{IsIsoRefused}
 use Rattle.schedules.specs.declared.power.Need.{Need}
 use Rattle.schedules.specs.declared.power.Profile.{Profile}
-use Rattle.schedule_answers.specs.declared.choosing.ScheduleFault.{ScheduleFault}
-use Rattle.schedule_answers.specs.declared.choosing.ScheduleFault.TheVariants as none
-use Rattle.schedule_answers.specs.Answers.{IsAnswerIn, IsRequestIn, IsFaultIn}
+use Rattle.service_messages.specs.ScheduleFault.{ScheduleFault}
+use Rattle.service_messages.specs.ScheduleFault.TheVariants as none
+use Rattle.service_messages.specs.Answers.{IsAnswerIn, IsRequestIn, IsFaultIn}
 use Rattle.charging_files.specs.ScheduleKeys.{IsNeed}
 use Rattle.charging_files.specs.ScheduleFiles.{IsNeedOf, need_told}
 use Rattle.schedules.specs.Lines.{profile_text}

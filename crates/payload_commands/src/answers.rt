@@ -5,8 +5,8 @@ ghost use Rattle.charging_files.specs.ScheduleKeys.{IsNeed};
 ghost use Rattle.payload_commands.specs.Scheduling.{answer_lines, IsTextOf, IsAnswerText, IsNoAnswerTo, IsNoAnswer};
 
 use hex_payloads::{HexFault, bytes_of};
-use schedule_answers::{Answer, AnswerFault, ScheduleFault, answer_of};
 use schedules::{Need, profile_lines};
+use service_messages::schedule_answers::{Answer, AnswerFault, ScheduleFault, answer_of};
 use std::alloc::{AllocError, Global};
 
 /// Why there is no text.

@@ -8,8 +8,8 @@ use charge_world::NoMemory;
 use exi_events::Table;
 use hex_payloads::{HexFault, bytes_of};
 use iso_codec::{IsoMessage, IsoTables, read_iso};
-use schedule_answers::codec;
 use service_messages::Want;
+use service_messages::schedule_answers::codec;
 use std::alloc::{AllocError, Global};
 
 /// Why there is no line.

@@ -10,8 +10,8 @@ use crate::answers::{NoAnswer, text_of};
 use charge_world::{Sink, Source};
 use charging_files::{Status, need_in, print_lines, refuse_file};
 use command_status::{line_of_input, tell_fault};
-use schedule_answers::ScheduleFault;
 use schedules::Need;
+use service_messages::schedule_answers::ScheduleFault;
 use std::alloc::Global;
 
 /// Tells why there is no answer. Want of memory has no line.

@@ -8,7 +8,7 @@ ghost use Rattle.payload_commands.specs.Scheduling.{ScheduleLeaves};
 ghost use Rattle.payload_commands.specs.ScheduleFates.{Fate, IsFate, Follows};
 
 use iso_codec::laws::messages_and_refusals;
-use schedule_answers::one_fate;
+use service_messages::schedule_answers::one_fate;
 
 /// The text of a need's file and the hexadecimal text of a payload have one fate at most.
 pub fn one_fate_of_files()

@@ -9,7 +9,7 @@ use Rattle.tree_words.specs.Named.{Children, children, head}
 use Rattle.tree_words.proofs.Held.{children_held}
 use Rattle.tree_words.proofs.Lists.{reads_each}
 use Rattle.iso_schema.specs.declared.kinds.TheConstants.{BOOLEAN_KIND, BYTE_KIND, SHORT_KIND, INT_KIND, TEXT64_KIND}
-use Rattle.iso_schema.specs.declared.names.TheConstants.{NAME, BOOL_VALUE, BYTE_VALUE, SHORT_VALUE, INT_VALUE, STRING_VALUE, PARAMETER, PARAMETER_SET, PARAMETER_SET_ID, RESPONSE_CODE, SERVICE_DETAIL_RES, SERVICE_PARAMETER_LIST}
+use Rattle.iso_schema.specs.declared.names.TheConstants.{NAME, BOOL_VALUE, BYTE_VALUE, SHORT_VALUE, INT_VALUE, STRING_VALUE, PARAMETER, PARAMETER_SET, PARAMETER_SET_ID, SERVICE_DETAIL_RES, SERVICE_PARAMETER_LIST}
 use Rattle.iso_parts.specs.declared.codes.ResponseCode.{ResponseCode}
 use Rattle.iso_details.specs.Details.{parameter_value_name, parameter_value_inside, parameter_given, parameter_parts, parameter_set_parts, service_parameter_list_parts, service_detail_res_parts}
 use Rattle.iso_details.specs.declared.details.Parameter.{Parameter}
@@ -27,7 +27,7 @@ use Rattle.iso_message.specs.declared.message.BodyElement.TheVariants as element
 use Rattle.iso_message.specs.declared.message.IsoMessage.{IsoMessage}
 use Rattle.iso_values.specs.Codes.{code_of}
 use Rattle.word_tables.specs.Tables.{Table, inside, rows, flag, integer, text, simple, attributed, nothing, perhaps, no_attributes, attribute_row, or_empty, read, ◌▷◌}
-use Rattle.iso_tables.specs.Codes.{response_code}
+use Rattle.iso_tables.specs.Setup.{detail_res}
 use Rattle.iso_words.proofs.Values.{code_read}
 use Rattle.schedule_answers.proofs.Elements.{read_if, in_body, one_tree, same_tree}
 use Rattle.service_spec.specs.Services.{Content, Truth, Number, Text, Said, SaidSet}
@@ -104,7 +104,7 @@ abbrev Reply : Type 0
 Reply = Code × List SaidSet
 
 abbrev reply_at : Children → Reply
-reply_at c = (read response_code (or_empty (head (c RESPONSE_CODE))), sets_at (head (c SERVICE_PARAMETER_LIST)))
+reply_at c = ((read detail_res c).0, sets_at (head (c SERVICE_PARAMETER_LIST)))
 
 reply_read : (code : ResponseCode) (id : ℕ) (o : Option ServiceParameterList)
     → reply_at (children (holding (service_detail_res_parts (record { response_code = code; service_id = id; service_parameter_list = o }))))

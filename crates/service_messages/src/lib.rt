@@ -19,4 +19,5 @@ pub use laws::{one_offer, payloads_offer_catalogues};
 pub use messages::message_of;
 pub use payloads::{DetailFault, payload_of};
 pub use picking::pick;
+pub use schedule_answers;
 pub use service_spec::{Parameter, Service, Want};

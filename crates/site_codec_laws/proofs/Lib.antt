@@ -1,3 +1,5 @@
+pub use Rattle.site_codec_rules.proofs.IsoReadBack
+pub use Rattle.site_codec_rules.proofs.DinReadBack
 pub mod OneAnswer
 pub mod OneJudged
 pub mod EachAnswer

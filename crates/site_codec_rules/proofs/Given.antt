@@ -1,5 +1,5 @@
 -- A reply that a post gives can be spelled.
-use Rattle.std.proofs.Common.{◌≡◌, ◌≤◌, ℕ, List, ◌⊎◌, inl, inr, Contains, Some, sym, subst}
+use Rattle.std.proofs.Common.{◌≡◌, ◌≤◌, ℕ, List, ◌⊎◌, inl, inr, Some, sym, subst}
 use Rattle.charge_world.specs.declared.offer.Dialect.{Dialect}
 use Rattle.charge_world.specs.declared.offer.Dialect.TheVariants as dialect
 use Rattle.session_words.specs.declared.facts.Facts.{Facts}
@@ -9,9 +9,9 @@ use Rattle.session_words.specs.declared.word.Request.{Request}
 use Rattle.session_words.specs.declared.word.Word.TheVariants as word
 use Rattle.session_rules.specs.declared.stage.Stage.{Stage}
 use Rattle.session_rules.specs.Reply.{waiting_reply}
+use Rattle.written_words.specs.Posts.{ArePostBounds}
 use Rattle.written_words.specs.Typed.{IsTyped}
 use Rattle.iso_word_laws.specs.Spellable as iso_spellable
-use Rattle.iso_word_laws.specs.Posts as iso_posts
 use Rattle.iso_word_laws.proofs.Posts as iso_replies
 use Rattle.din_word_laws.specs.Spellable as din_spellable
 use Rattle.din_word_laws.specs.Posts as din_posts
@@ -22,11 +22,9 @@ use Rattle.site_codec.specs.Replies.{IsPlan, AreFacts, IsAnswer, IsGiven}
 use Rattle.site_codec_rules.specs.Codecs.{Reads, CanSpell}
 use Rattle.site_codec_rules.proofs.Spoken.{spoken_in}
 
--- ---- in ISO
-
-iso_bounds : (s : Stage) (facts : Facts) (plan : PostPlan) (shown : ℕ) → IsPlan plan → AreFacts facts → s.told ≤ 1000000 → shown ≤ 1000000
-    → iso_posts.ArePostBounds s facts plan shown
-iso_bounds s facts plan shown p f told most = record {
+post_bounds : (s : Stage) (facts : Facts) (plan : PostPlan) (shown : ℕ) → IsPlan plan → AreFacts facts → s.told ≤ 1000000 → shown ≤ 1000000
+    → ArePostBounds s facts plan shown
+post_bounds s facts plan shown p f told most = record {
   voltage = f.voltage;
   current = f.current;
   max_voltage = p.max_voltage;
@@ -37,6 +35,8 @@ iso_bounds s facts plan shown p f told most = record {
   told = told;
   most = most;
 }
+
+-- ---- in ISO
 
 abbrev InIso : Reply → Type 0
 InIso reply = iso_spellable.CanSpell (word.Reply reply)
@@ -45,26 +45,11 @@ iso_reply : (reply : Reply) (g : IsGiven Reads dialect.Iso reply) → IsTyped re
     → IsAnswer Reads g.stage g.facts g.plan reply ⊎ (reply ≡ waiting_reply g.stage g.facts g.plan) → InIso reply
 iso_reply reply g typed (inl a) =
     subst InIso (sym a.reply_is) (iso_replies.spells_typed g.stage g.facts g.plan a.request a.shown (sym g.dialect_is) g.is_plan.rules
-    (iso_bounds g.stage g.facts g.plan a.shown g.is_plan g.are_facts g.told a.most) (subst IsTyped a.reply_is typed))
+    (post_bounds g.stage g.facts g.plan a.shown g.is_plan g.are_facts g.told a.most) (subst IsTyped a.reply_is typed))
 iso_reply reply g typed (inr is) =
     subst InIso (sym is) (iso_replies.spells_typed_waiting g.stage g.facts g.plan (subst IsTyped is typed))
 
 -- ---- in DIN
-
-din_bounds : (s : Stage) (facts : Facts) (plan : PostPlan) (shown : ℕ) → Contains plan.dialects.items dialect.Din → IsPlan plan → AreFacts facts
-    → s.told ≤ 1000000 → shown ≤ 1000000 → din_posts.ArePostBounds s facts plan shown
-din_bounds s facts plan shown offered p f told most = record {
-  offered = offered;
-  voltage = f.voltage;
-  current = f.current;
-  max_voltage = p.max_voltage;
-  min_voltage = p.min_voltage;
-  max_current = p.max_current;
-  min_current = p.min_current;
-  ripple = p.ripple;
-  told = told;
-  most = most;
-}
 
 spoken_by : (d : Dialect) (payload : List ℕ) (r : Request) → dialect.Din ≡ d → Reads d payload (Some (word.Request r)) → din_posts.IsSpoken r.ask
 spoken_by dialect.Din payload r is read = spoken_in read.tree r read.word_is
@@ -76,8 +61,8 @@ InDin reply = din_spellable.CanSpell (word.Reply reply)
 din_reply : (reply : Reply) (g : IsGiven Reads dialect.Din reply) → IsTyped reply
     → IsAnswer Reads g.stage g.facts g.plan reply ⊎ (reply ≡ waiting_reply g.stage g.facts g.plan) → InDin reply
 din_reply reply g typed (inl a) =
-    subst InDin (sym a.reply_is) (din_replies.spells_typed g.stage g.facts g.plan a.request a.shown (sym g.dialect_is) g.is_plan.rules
-    (din_bounds g.stage g.facts g.plan a.shown g.offered g.is_plan g.are_facts g.told a.most)
+    subst InDin (sym a.reply_is) (din_replies.spells_typed g.stage g.facts g.plan a.request a.shown (sym g.dialect_is) g.is_plan.rules g.offered
+    (post_bounds g.stage g.facts g.plan a.shown g.is_plan g.are_facts g.told a.most)
     (spoken_by g.stage.dialect a.payload a.request g.dialect_is a.asked) (subst IsTyped a.reply_is typed))
 din_reply reply g typed (inr is) =
     subst InDin (sym is) (din_replies.spells_typed_waiting g.stage g.facts g.plan (sym g.dialect_is) g.is_plan.rules g.offered

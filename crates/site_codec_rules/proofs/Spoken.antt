@@ -7,8 +7,8 @@ use Rattle.session_words.specs.declared.word.Word.{Word}
 use Rattle.session_words.specs.declared.word.Word.TheVariants as word
 use Rattle.din_schema.specs.declared.names.TheConstants.{BODY}
 use Rattle.tree_words.specs.Named.{children, first_in}
-use Rattle.din_tables.specs.Frame.{Message}
-use Rattle.din_tables.specs.Words.{messages, word_by, word_named, word_of_tree}
+use Rattle.message_tables.specs.Frame.{Message, word_by}
+use Rattle.din_tables.specs.Words.{messages, word_named, word_of_tree}
 use Rattle.din_word_laws.specs.Posts.{IsSpoken}
 
 -- what a word asks is of the profile, where it is a request

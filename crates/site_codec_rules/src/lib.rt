@@ -10,6 +10,8 @@ ghost use Rattle.site_codec_rules.specs.Given.{GivenAreSpelled, GivenAreBrief};
 
 mod reading;
 
+pub use din_table_laws;
+pub use iso_table_laws;
 pub use reading::read_word;
 
 /// Each payload reads as the word of the tree that it spells, or as none. The function does nothing: its contract is the law.

@@ -1,6 +1,5 @@
 -- What is read of each child of a name, where the parts have a list of them, or one that may be absent.
-use Rattle.std.proofs.Common.{◌≡◌, suc, Bool, true, ◌&&◌, List, [], ◌∷◌, length, map, Option, Some, None, refl, ap, ap₂}
-use Rattle.std.specs.List.{list_all}
+use Rattle.std.proofs.Common.{◌≡◌, suc, true, List, [], ◌∷◌, length, map, Option, Some, None, refl, ap, ap₂}
 use Rattle.std.specs.Option.{option_map}
 use Rattle.message_parts.specs.Contents.{Inside, mapped}
 use Rattle.tree_words.specs.Named.{head}
@@ -21,21 +20,11 @@ pub reads_each : {X Y : Type 0} (read : Inside → Y) (inside : X → Inside) (m
 reads_each read inside meant same [] = refl
 reads_each read inside meant same (x ∷ xs) = ap₂ (λ y ys. y ∷ ys) (same x) (reads_each read inside meant same xs)
 
-pub reads_all : {X : Type 0} (read : Inside → Bool) (inside : X → Inside) (meant : X → Bool) → ((x : X) → read (inside x) ≡ meant x)
-    → (xs : List X) → list_all read (kept_each true (map inside xs) []) ≡ list_all meant xs
-reads_all read inside meant same [] = refl
-reads_all read inside meant same (x ∷ xs) = ap₂ (λ y ys. y && ys) (same x) (reads_all read inside meant same xs)
-
 pub counts_each : {X : Type 0} (inside : X → Inside) (xs : List X) → length (kept_each true (map inside xs) []) ≡ length xs
 counts_each inside [] = refl
 counts_each inside (x ∷ xs) = ap suc (counts_each inside xs)
 
 -- ---- where it is read as itself
-
-pub same_if : {X : Type 0} (read : Inside → X) (inside : X → Inside) → ((x : X) → read (inside x) ≡ x)
-    → (o : Option X) → option_map read (head (kept_if true (mapped inside o) [])) ≡ o
-same_if read inside same None = refl
-same_if read inside same (Some x) = ap (λ y. Some y) (same x)
 
 pub same_each : {X : Type 0} (read : Inside → X) (inside : X → Inside) → ((x : X) → read (inside x) ≡ x)
     → (xs : List X) → map read (kept_each true (map inside xs) []) ≡ xs

@@ -29,28 +29,7 @@ abbrev pub text_in : Inside → List ℕ
 text_in (Of (Text chars)) = chars
 text_in other = []
 
--- ---- of the first of these
-
-abbrev pub truth : List Inside → Bool
-truth [] = false
-truth (inside ∷ more) = truth_in inside
-
-abbrev pub ordinal : List Inside → ℕ
-ordinal [] = 0
-ordinal (inside ∷ more) = ordinal_in inside
-
+-- of the first of these
 abbrev pub number : List Inside → ℤ
 number [] = pos 0
 number (inside ∷ more) = number_in inside
-
-abbrev pub natural : List Inside → ℕ
-natural [] = 0
-natural (inside ∷ more) = natural_in inside
-
-abbrev pub bytes : List Inside → List ℕ
-bytes [] = []
-bytes (inside ∷ more) = bytes_in inside
-
-abbrev pub text : List Inside → List ℕ
-text [] = []
-text (inside ∷ more) = text_in inside

@@ -1,3 +1,3 @@
 pub mod Named
 pub mod Leaves
-pub mod Lending
+pub mod Attributes

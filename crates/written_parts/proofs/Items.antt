@@ -1,13 +1,12 @@
 -- Bytes and texts that are written lie within their maxima; lists of parts go element by element.
-use Rattle.std.proofs.Common.{◌≡◌, ℕ, zero, suc, ◌+◌, ◌-◌, ◌<◌, ◌≤◌, List, [], ◌∷◌, length, map, All, ℤ, pos, negsuc, ◌≤ℤ◌, arith, sym, subst, ◌∙◌}
+use Rattle.std.proofs.Common.{◌≡◌, ℕ, ◌-◌, ◌<◌, ◌≤◌, List, [], ◌∷◌, length, map, All, ℤ, pos, negsuc, ◌≤ℤ◌, arith, sym, subst, ◌∙◌}
 use Rattle.std.specs.Char.{IsScalar}
-use Rattle.std.specs.List.{AllByRecursion, range_with_len}
+use Rattle.std.specs.List.{AllByRecursion}
 use Rattle.std.specs.Str.{chars}
 use Rattle.std.proofs.lemmas.Grind.{common_steps}
 use Rattle.std.proofs.lemmas.Int.{ints}
 use Rattle.std.proofs.lemmas.List.{length-map}
-use Rattle.std.proofs.lemmas.List.Elements.{recursion_from_All}
-use Rattle.std.proofs.lemmas.List.FromFn.{length-map-range_with_len}
+use Rattle.std.proofs.lemmas.List.Elements.{All-head, All-tail, recursion_from_All}
 use Rattle.std.proofs.lemmas.Str.{chars-IsAscii}
 use Rattle.std.proofs.lemmas.Str.Ascii.{IsAscii-from_all}
 use Rattle.exi_schema.specs.declared.tables.Datatype.TheVariants.{Bounded, Binary, Text as TextType}
@@ -17,29 +16,14 @@ use Rattle.session_words.specs.Amounts.{above_zero}
 
 -- ---- lists
 
-pub head : {X : Type 0} (P : X → Type 0) (x : X) (xs : List X) → All P (x ∷ xs) → P x
-head P x xs all = all 0 x (omega arith)
-
-pub tail : {X : Type 0} (P : X → Type 0) (x : X) (xs : List X) → All P (x ∷ xs) → All P xs
-tail P x xs all = λ k d h. all (suc k) d (omega arith)
-
 -- what holds of all gives what holds of what is made of each, in two steps
 pub each_made : {X Y Z : Type 0} (P : X → Type 0) (Q : Z → Type 0) (f : Y → Z) (g : X → Y) → ((x : X) → P x → Q (f (g x)))
     → (xs : List X) → All P xs → AllByRecursion Q (map f (map g xs))
 each_made P Q f g one [] all = tt
-each_made P Q f g one (x ∷ xs) all = (one x (head P x xs all), each_made P Q f g one xs (tail P x xs all))
-
--- of the numbers from a on
-pub each_of_range : {Y Z : Type 0} (Q : Z → Type 0) (f : Y → Z) (g : ℕ → Y) (most : ℕ) → ((n : ℕ) → n ≤ most → Q (f (g n)))
-    → (a n : ℕ) → a + n ≤ most → AllByRecursion Q (map f (map g (range_with_len a n)))
-each_of_range Q f g most one a zero few = tt
-each_of_range Q f g most one a (suc n) few = (one a (omega arith), each_of_range Q f g most one (a + 1) n (omega arith))
+each_made P Q f g one (x ∷ xs) all = (one x (All-head P x xs all), each_made P Q f g one xs (All-tail P x xs all))
 
 pub length_made : {X Y Z : Type 0} (f : Y → Z) (g : X → Y) (xs : List X) → length (map f (map g xs)) ≡ length xs
 length_made f g xs = length-map (map g xs) f ∙ length-map xs g
-
-pub length_of_range : {Y Z : Type 0} (f : Y → Z) (g : ℕ → Y) (a n : ℕ) → length (map f (map g (range_with_len a n))) ≡ n
-length_of_range f g a n = length-map (map g (range_with_len a n)) f ∙ length-map-range_with_len g a n
 
 -- ---- bytes and texts
 
@@ -52,7 +36,7 @@ ascii_scalar c h = grind (arith, common_steps)
 scalars : (cs : List ℕ) → All (λ c. c < 128) cs → AllByRecursion (λ c. IsScalar c) cs
 scalars [] all = tt
 scalars (c ∷ cs) all =
-    (ascii_scalar c (head (λ (x : ℕ). x < 128) c cs all), scalars cs (tail (λ (x : ℕ). x < 128) c cs all))
+    (ascii_scalar c (All-head (λ (x : ℕ). x < 128) c cs all), scalars cs (All-tail (λ (x : ℕ). x < 128) c cs all))
 
 pub text_fits : (most : ℕ) (id : List ℕ) → All (λ c. c < 128) id → length id ≤ most → IsValue (TextType most) (Text (chars id))
 text_fits most id all few =

@@ -1,7 +1,7 @@
-//! How much what is written of a word weighs, in either dialect: elements that are there if the word has what they are made of, and those
-//! of lists. The one law is a function that does nothing: its contract is the law.
+//! How many entries the schedules of a post's replies have: they alone make a reply long. The one law is a function that does nothing: its
+//! contract is the law.
 //!
-//! Proved: lemmas, on which the laws of the sizes of replies and of requests stand (`iso_reply_sizes`, ..).
+//! Proved: `posts_give_one_entry`, on which stands that the replies of a post fit in 1,024 bytes (`iso_table_laws`, `din_table_laws`).
 #![tactic(auto)]
 
 ghost use Rattle.written_sizes.specs.Entries.{RepliesAreBrief, WaitingIsBrief};

@@ -1,5 +1,5 @@
 -- What is written of amounts counts as them.
-use Rattle.std.proofs.Common.{◌≡◌, ℕ, zero, suc, ◌*◌, ◌/◌, ◌%◌, ◌+◌, ◌<◌, ◌≤◌, Bool, true, false, ◌||◌, nat_lt, IsTrue, if◌then◌else◌, ℤ, pos, negsuc, arith, refl, sym, ◌∙◌, ap}
+use Rattle.std.proofs.Common.{◌≡◌, ℕ, ◌*◌, ◌/◌, ◌%◌, ◌≤◌, Bool, true, false, ◌||◌, nat_lt, IsTrue, if◌then◌else◌, pos, negsuc, arith, refl}
 use Rattle.std.proofs.lemmas.Grind.{common_steps}
 use Rattle.session_words.specs.Amounts.{tenths_of, units_of}
 use Rattle.session_rules.specs.Offers.{spelled_watts}

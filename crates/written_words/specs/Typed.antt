@@ -1,5 +1,5 @@
 -- Own: what the types of a reply bound.
-use Rattle.std.specs.Prelude.{ℕ, ◌<◌, ◌≤◌, All, length}
+use Rattle.std.specs.Prelude.{◌<◌, ◌≤◌, All, length}
 use Rattle.session_words.specs.declared.limits.EvseId.{EvseId}
 use Rattle.session_words.specs.declared.limits.EvseId.TheVariants as evse
 use Rattle.session_words.specs.declared.word.Reply.{Reply}

@@ -1,7 +1,7 @@
 use Rattle.std.proofs.Common.{◌≡◌, Some, sym, ◌∙◌, ap}
 use Rattle.exi_bits.specs.Lent.{items_of}
 use Rattle.din_message.specs.Documents.{din_inside}
-use Rattle.din_tables.specs.Frame.{session_of}
+use Rattle.message_tables.specs.Frame.{session_of}
 use Rattle.din_tables.specs.Words.{in_tell}
 use Rattle.din_word_messages.proofs.messages.of_reply.Goals as goal
 
