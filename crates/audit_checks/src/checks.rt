@@ -10,6 +10,7 @@ ghost use Rattle.faultless_pasts.specs.Faultless.{told_codecs};
 ghost use Rattle.audit_contactors.specs.Site as contactors;
 ghost use Rattle.audit_checks.specs.Around as places;
 ghost use Rattle.audit_checks.specs.Checks.{number, FailsOf};
+ghost use Rattle.audit_checks.specs.Due as due;
 
 use crate::around::Around;
 use audit_contactors::ContactorValues;
@@ -50,6 +51,40 @@ fn is_close(given: Order) -> bool
     ensures { result ≡ places.is_close given }
 {
     matches!(given, Order::Close)
+}
+
+/// Whether an entry orders a contactor closed, at whichever post.
+fn closes(entry: &Entry) -> bool
+    ensures { result ≡ due.closes entry.now }
+{
+    match entry {
+        Entry::Drove { order, .. } => is_close(*order),
+        _ => false,
+    }
+}
+
+/// Whether an entry sends bytes to a car.
+fn sends(entry: &Entry) -> bool
+    ensures { result ≡ due.sends entry.now }
+{
+    matches!(entry, Entry::Sent { .. })
+}
+
+/// Whether an entry is an act of a post.
+fn acts(entry: &Entry) -> bool
+    ensures { result ≡ due.acts entry.now }
+{
+    matches!(
+        entry,
+        Entry::Sent { .. } | Entry::Answered { .. } | Entry::Drove { .. } | Entry::Ended { .. }
+    )
+}
+
+/// Whether an entry is a hearing.
+fn is_heard(entry: &Entry) -> bool
+    ensures { result ≡ checks.is_heard entry.now }
+{
+    matches!(entry, Entry::Heard { .. })
 }
 
 /// Whether an entry orders the contactor of a post closed.
@@ -171,6 +206,29 @@ impl Check {
             Check::AnswersNothing => 9,
             Check::LeavesWord => 10,
         }
+    }
+
+    /// Whether it may fail at an entry, by what that is.
+    fn is_due(self, entry: &Entry, ends: bool, last: bool, above: bool) -> bool
+        ensures { result ≡ due.may_fail self entry.now ends last above }
+    {
+        match self {
+            Check::ClosesUnmandated => closes(entry),
+            Check::FailsLive | Check::SpellsOthers | Check::AnswersNothing => sends(entry),
+            Check::PassesCause => last || sends(entry) || is_heard(entry),
+            Check::ForgetsOpen => ends || acts(entry) && !opens(entry),
+            Check::StaysClosed | Check::LeavesWord => ends,
+            Check::PassesLimit => above,
+            Check::EndsLive => last,
+        }
+    }
+
+    /// Whether it may fail at an entry at all, for any post: at another it need not be looked for. The entry `ends` its block, is the `last` of the trace,
+    /// and behind it the watts of all posts are `above` the limit of the site, or not.
+    pub fn may_fail<C: ToldCoded>(self, entry: &Entry, ends: bool, last: bool, above: bool) -> bool
+        ensures { due.IsDue (told_codecs C.negotiates C.reads C.encodes C.responds C.watts) self entry.now ends last above result }
+    {
+        self.is_due(entry, ends, last, above)
     }
 
     /// Whether it fails, off the values; the post was `mandated` to close before the entry, `stays` so behind it, and an order to open that it owes was

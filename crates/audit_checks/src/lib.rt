@@ -2,7 +2,8 @@
 //! IEC 61851-23; ISO 15118-2:2014, section 8.8).
 //!
 //! Proved: `Check::fails` answers exactly where `told_pasts` says that the check fails for the post, where it is told of the entry what no post keeps
-//! (`Around`); `checks_are_posts`: a check fails at an entry exactly where it fails for one of the posts.
+//! (`Around`); `Check::may_fail`: where it answers no, the check fails for no post; `checks_are_posts`: a check fails at an entry exactly where it fails
+//! for one of the posts.
 #![tactic(auto)]
 
 mod around;

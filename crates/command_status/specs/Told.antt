@@ -43,5 +43,9 @@ Writes lines before after = Appends before.taken after.taken lines × (after.fau
 abbrev pub WritesFront : List ℕ → SinkTold → SinkTold → Type 0
 WritesFront lines before after = (before.faults < after.faults) × AppendsSome before.taken after.taken lines
 
+-- the lines were printed, at this status, or couldn't be, and then a front of them was
+abbrev pub PrintsAs : Status → List ℕ → Status → SinkTold → SinkTold → Type 0
+PrintsAs wanted lines s before after = ((s ≡ wanted) × Writes lines before after) ⊎ ((s ≡ status.SinkFault) × WritesFront lines before after)
+
 abbrev pub Prints : List ℕ → Status → SinkTold → SinkTold → Type 0
-Prints lines s before after = ((s ≡ status.Done) × Writes lines before after) ⊎ ((s ≡ status.SinkFault) × WritesFront lines before after)
+Prints lines s before after = PrintsAs status.Done lines s before after

@@ -17,10 +17,11 @@ use Rattle.told_pasts.specs.Spelling.{ToldCodecs}
 use Rattle.told_pasts.specs.Steps.{seen_in}
 use Rattle.audit_streams.specs.Streams.{NoneIsNext}
 use Rattle.audited_posts.specs.Posts.{IsFree}
-use Rattle.trace_audit.specs.Auditing.{Follows, PassesBefore, IsClean, capped, IsFound, no_verdict, IsJudgedPast}
+use Rattle.trace_audit.specs.Auditing.{Follows, PassesBefore, IsClean, capped, IsFound, IsOfPost, no_verdict, IsJudgedPast}
 use Rattle.trace_audit.specs.Seats.{IsAt, AreSeated, AreEven}
 use Rattle.trace_audit.specs.Verdicts.{IsLeastOf, IsLeast, GoesOn, IsVerdict, fault_before}
 use Rattle.trace_audit.specs.declared.seats.Seat.{Seat}
+use Rattle.trace_audit.specs.declared.verdicts.Finding.{Finding}
 use Rattle.trace_audit.specs.declared.verdicts.Verdict.{Verdict}
 use Rattle.trace_audit.proofs.Entries.{no_session}
 use Rattle.trace_audit.proofs.Lists.{at_of}
@@ -62,7 +63,7 @@ goes_behind : (x : Entry) (behind : List Entry) → (is_hearing x → ⊥) → F
 goes_behind x behind none f = (some_behind x behind f, no_hearing x behind f none)
 
 -- the verdict where this entry follows
-pub follows_told : (c : ToldCodecs) (site : SitePlan) (earlier : List Entry) (e x : Entry) (v : Verdict) → IsVerdict c site earlier e v → (behind : List Entry) → Follows x behind → IsLeast (FailsAt c site earlier e behind) (fault_before v x)
+pub follows_told : (c : ToldCodecs) (site : SitePlan) (earlier : List Entry) (e x : Entry) (v : Verdict) → IsVerdict c site earlier e v → (behind : List Entry) → Follows x behind → IsLeast c site earlier e behind (fault_before v x)
 follows_told c site earlier e (entry.Heard heard bytes) v is behind f = is.hears behind (f.0, heard, bytes, f.1)
 follows_told c site earlier e entry.Lost v is behind f = is.goes_on behind (goes_behind entry.Lost behind (λ h. h) f)
 follows_told c site earlier e (entry.Sent post bytes taken) v is behind f = is.goes_on behind (goes_behind (entry.Sent post bytes taken) behind (λ h. h) f)
@@ -73,12 +74,12 @@ follows_told c site earlier e (entry.Ended post cause) v is behind f = is.goes_o
 
 pub none_fails : (c : ToldCodecs) (site : SitePlan) (earlier : List Entry) (e x : Entry) (v : Verdict) → IsVerdict c site earlier e v → fault_before v x ≡ None → PassesBefore c site earlier e x
 none_fails c site earlier e x v is none behind n f fails =
-    let told : IsLeast (FailsAt c site earlier e behind) None = subst (λ (o : Option ℕ). IsLeast (FailsAt c site earlier e behind) o) none (follows_told c site earlier e x v is behind f) in
+    let told : IsLeast c site earlier e behind None = subst (IsLeast c site earlier e behind) none (follows_told c site earlier e x v is behind f) in
     told n fails
 
-pub some_fails : (c : ToldCodecs) (site : SitePlan) (earlier : List Entry) (e x : Entry) (v : Verdict) (n : ℕ) → IsVerdict c site earlier e v → fault_before v x ≡ Some n
-    → (behind : List Entry) → Follows x behind → IsLeastOf (FailsAt c site earlier e behind) n
-some_fails c site earlier e x v n is some behind f = subst (λ (o : Option ℕ). IsLeast (FailsAt c site earlier e behind) o) some (follows_told c site earlier e x v is behind f)
+pub some_fails : (c : ToldCodecs) (site : SitePlan) (earlier : List Entry) (e x : Entry) (v : Verdict) (n : Finding) → IsVerdict c site earlier e v → fault_before v x ≡ Some n
+    → (behind : List Entry) → Follows x behind → IsLeastOf c site earlier e behind n.check n.post
+some_fails c site earlier e x v n is some behind f = subst (IsLeast c site earlier e behind) some (follows_told c site earlier e x v is behind f)
 
 -- ---- before an entry at which nothing failed so far
 
@@ -142,7 +143,7 @@ clean_next c site (e ∷ earlier) x v seats j clean none = (none_fails c site ea
 
 -- ---- a fault that is found
 
-none_at : (x : Entry) (n : ℕ) → fault_before no_verdict x ≡ Some n → ⊥
+none_at : (x : Entry) (n : Finding) → fault_before no_verdict x ≡ Some n → ⊥
 none_at (entry.Heard heard bytes) n is = absurd (let h : None ≡ Some n = is in cc)
 none_at entry.Lost n is = absurd (let h : None ≡ Some n = is in cc)
 none_at (entry.Sent post bytes taken) n is = absurd (let h : None ≡ Some n = is in cc)
@@ -151,8 +152,8 @@ none_at (entry.Drove post given taken) n is = absurd (let h : None ≡ Some n = 
 none_at (entry.Dialed port taken) n is = absurd (let h : None ≡ Some n = is in cc)
 none_at (entry.Ended post cause) n is = absurd (let h : None ≡ Some n = is in cc)
 
-pub found_now : (c : ToldCodecs) (site : SitePlan) (past : List Entry) (x : Entry) (v : Verdict) (seats : List Seat) (line n : ℕ) → IsJudgedPast c site past v seats → IsClean c site past → line ≡ capped (length past + 1) → fault_before v x ≡ Some n
-    → IsFound c site (x ∷ past) line n
+pub found_now : (c : ToldCodecs) (site : SitePlan) (past : List Entry) (x : Entry) (v : Verdict) (seats : List Seat) (line : ℕ) (n : Finding) → IsJudgedPast c site past v seats → IsClean c site past → line ≡ capped (length past + 1) → fault_before v x ≡ Some n
+    → IsFound c site (x ∷ past) line n.check n.post
 found_now c site [] x v seats line n j clean line_is some = absurd (none_at x n (subst (λ (w : Verdict). fault_before w x ≡ Some n) j.0 some))
 found_now c site (e ∷ earlier) x v seats line n j clean line_is some = record {
   newer = [];
@@ -165,8 +166,8 @@ found_now c site (e ∷ earlier) x v seats line n j clean line_is some = record 
   clean = clean;
 }
 
-pub found_still : (c : ToldCodecs) (site : SitePlan) (past : List Entry) (y : Entry) (line n : ℕ) → IsFound c site past line n → IsFound c site (y ∷ past) line n
-found_still c site past y line n f = record {
+pub found_still : (c : ToldCodecs) (site : SitePlan) (past : List Entry) (y : Entry) (line n k : ℕ) → IsFound c site past line n k → IsFound c site (y ∷ past) line n k
+found_still c site past y line n k f = record {
   newer = y ∷ f.newer;
   x = f.x;
   e = f.e;
@@ -244,10 +245,14 @@ long past newer x earlier is =
     let j : length (x ∷ earlier) ≡ suc (length earlier) = refl in
     omega (arith, l, k, j)
 
+-- the first fault, and its post
+abbrev pub IsFirstOfPost : ToldCodecs → SitePlan → List Entry → ℕ → ℕ → ℕ → Type 0
+IsFirstOfPost c site past line n k = IsFirstFault c site past line n × IsOfPost c site past line n k
+
 -- the fault of a line that is decided, or of the newest, is the first one, where the part before it is clean
-pub first_fault : (c : ToldCodecs) (site : SitePlan) (past behind earlier : List Entry) (e : Entry) (line n : ℕ) → past ≡ behind ++ e ∷ earlier → line ≡ length earlier + 2 → IsClean c site (e ∷ earlier) → IsLeastOf (FailsAt c site earlier e behind) n
+first_by : (c : ToldCodecs) (site : SitePlan) (past behind earlier : List Entry) (e : Entry) (line n k : ℕ) → past ≡ behind ++ e ∷ earlier → line ≡ length earlier + 2 → IsClean c site (e ∷ earlier) → IsLeastOf c site earlier e behind n k
     → IsFirstFault c site past line n
-first_fault c site past behind earlier e line n is line_is clean least = record {
+first_by c site past behind earlier e line n k is line_is clean least = record {
   is = record { behind = behind; e = e; earlier = earlier; past_is = is; line_is = line_is; fails = least.is };
   first = λ other_line m f.
       by_equal (IsEarlier line n other_line m) (length f.earlier) (length earlier) (length f.earlier == length earlier) refl
@@ -263,19 +268,33 @@ first_fault c site past behind earlier e line n is line_is clean least = record 
       (λ more. inl (let l = f.line_is in omega (arith, line_is, l, more))));
 }
 
-pub found_first : (c : ToldCodecs) (site : SitePlan) (past : List Entry) (line n : ℕ) → length past < 2 ^ 64 - 2 → IsFound c site past line n → IsFirstFault c site past line n
-found_first c site past line n short f =
+pub first_fault : (c : ToldCodecs) (site : SitePlan) (past behind earlier : List Entry) (e : Entry) (line n k : ℕ) → past ≡ behind ++ e ∷ earlier → line ≡ length earlier + 2 → IsClean c site (e ∷ earlier) → IsLeastOf c site earlier e behind n k
+    → IsFirstOfPost c site past line n k
+first_fault c site past behind earlier e line n k is line_is clean least = (
+  first_by c site past behind earlier e line n k is line_is clean least,
+  record {
+    behind = behind;
+    e = e;
+    earlier = earlier;
+    past_is = is;
+    line_is = line_is;
+    first = least.post;
+  },
+)
+
+pub found_first : (c : ToldCodecs) (site : SitePlan) (past : List Entry) (line n k : ℕ) → length past < 2 ^ 64 - 2 → IsFound c site past line n k → IsFirstOfPost c site past line n k
+found_first c site past line n k short f =
     let is : past ≡ (f.newer ++ f.x ∷ []) ++ f.e ∷ f.earlier = f.past_is ∙ snoc_cut f.newer f.x (f.e ∷ f.earlier) in
     let l = long past (f.newer ++ f.x ∷ []) f.e f.earlier is in
     let line_is = f.line_is in
-    first_fault c site past (f.newer ++ f.x ∷ []) f.earlier f.e line n is (omega (arith, line_is, l, short)) f.clean (f.fails (f.newer ++ f.x ∷ []) (f.newer, refl))
+    first_fault c site past (f.newer ++ f.x ∷ []) f.earlier f.e line n k is (omega (arith, line_is, l, short)) f.clean (f.fails (f.newer ++ f.x ∷ []) (f.newer, refl))
 
-pub newest_first : (c : ToldCodecs) (site : SitePlan) (past : List Entry) (v : Verdict) (seats : List Seat) (line n : ℕ) → length past < 2 ^ 64 - 2 → IsJudgedPast c site past v seats → IsClean c site past → line ≡ capped (length past + 1) → v.ends ≡ Some n
-    → IsFirstFault c site past line n
+pub newest_first : (c : ToldCodecs) (site : SitePlan) (past : List Entry) (v : Verdict) (seats : List Seat) (line : ℕ) (n : Finding) → length past < 2 ^ 64 - 2 → IsJudgedPast c site past v seats → IsClean c site past → line ≡ capped (length past + 1) → v.ends ≡ Some n
+    → IsFirstOfPost c site past line n.check n.post
 newest_first c site [] v seats line n short j clean line_is some = absurd (let x : None ≡ Some n = sym (ap (λ (w : Verdict). w.ends) j.0) ∙ some in cc)
 newest_first c site (e ∷ earlier) v seats line n short j clean line_is some =
-    first_fault c site (e ∷ earlier) [] earlier e line n refl (let l : length (e ∷ earlier) ≡ suc (length earlier) = refl in omega (arith, line_is, short, l)) clean
-    (subst (λ (o : Option ℕ). IsLeast (FailsAt c site earlier e []) o) some (j.0.ends [] refl))
+    first_fault c site (e ∷ earlier) [] earlier e line n.check n.post refl (let l : length (e ∷ earlier) ≡ suc (length earlier) = refl in omega (arith, line_is, short, l)) clean
+    (subst (IsLeast c site earlier e []) some (j.0.ends [] refl))
 
 pub none_first : (c : ToldCodecs) (site : SitePlan) (past : List Entry) (v : Verdict) (seats : List Seat) → IsJudgedPast c site past v seats → IsClean c site past → v.ends ≡ None → IsFaultless c site past
 none_first c site [] v seats j clean none line n f = let l = long [] f.behind f.e f.earlier f.past_is in omega (arith, l)
@@ -283,7 +302,7 @@ none_first c site (e ∷ earlier) v seats j clean none line n f =
     by_equal ⊥ (length f.earlier) (length earlier) (length f.earlier == length earlier) refl
     (λ same.
     let cut = cut_once f.behind [] f.e e f.earlier earlier (sym f.past_is) same in
-    let told : IsLeast (FailsAt c site earlier e []) None = subst (λ (o : Option ℕ). IsLeast (FailsAt c site earlier e []) o) none (j.0.ends [] refl) in
+    let told : IsLeast c site earlier e [] None = subst (IsLeast c site earlier e []) none (j.0.ends [] refl) in
     told n (subst (λ (z : Entry). FailsAt c site earlier z [] n) cut.1 (subst (λ (zs : List Entry). FailsAt c site zs f.e [] n) cut.2 (subst (λ (zs : List Entry). FailsAt c site f.earlier f.e zs n) cut.0 f.fails))))
     (λ apart.
     let l = long (e ∷ earlier) f.behind f.e f.earlier f.past_is in

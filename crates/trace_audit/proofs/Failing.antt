@@ -1,5 +1,5 @@
 -- Which check fails at an entry, and for which post.
-use Rattle.std.proofs.Common.{◌≡◌, inl, inr, ◌<◌, ◌≤◌, ℕ, ◌+◌, ◌-◌, ◌==◌, Bool, true, false, List, [], ◌∷◌, ◌++◌, length, refl, sym, ap, subst, ◌∙◌, arith}
+use Rattle.std.proofs.Common.{◌≡◌, inl, inr, ◌<◌, ◌≤◌, ℕ, ◌+◌, ◌-◌, ◌==◌, Bool, true, false, List, [], ◌∷◌, ◌++◌, length, Option, Some, None, refl, sym, ap, subst, ◌∙◌, arith}
 use Rattle.std.specs.Prelude.{◌↔◌, ◌||◌, IsTrue}
 use Rattle.std.specs.List.{AllByRecursion, list_any}
 use Rattle.std.proofs.lemmas.Bool.{eqb-true, eqb-false}
@@ -13,8 +13,9 @@ use Rattle.told_pasts.specs.Faults.{FailsAt, Check1, Check2, Check3, Check4, Che
 use Rattle.told_pasts.specs.Spelling.{ToldCodecs}
 use Rattle.audit_checks.specs.declared.checks.Check.{Check}
 use Rattle.audit_checks.specs.declared.checks.Check.TheVariants as check
-use Rattle.audit_checks.specs.Checks.{FailsOf}
-use Rattle.trace_audit.specs.Verdicts.{IsEntryPlace, GoesOn}
+use Rattle.audit_checks.specs.Checks.{number, FailsOf}
+use Rattle.audit_checks.proofs.Posts.{are_posts}
+use Rattle.trace_audit.specs.Verdicts.{IsEntryPlace, IsFirst, IsFirstOf, IsLeastOf, GoesOn}
 use Rattle.trace_audit.proofs.Entries.{must_be_post, live_is_post, act_is_post}
 use Rattle.trace_audit.proofs.Posts.{number_of}
 
@@ -84,6 +85,34 @@ not_true b is t = differ (sym is ∙ t)
 
 pub not_less : (a b : ℕ) → (a < b → ⊥) → b ≤ a
 not_less a b h = omega arith
+
+-- none of the numbers from 1 to this one has it
+pub none_before : (P : ℕ → Type 0) (i : ℕ) → ((j : ℕ) → j < i → P (j + 1) → ⊥) → (k : ℕ) → 1 ≤ k → P k → i + 1 ≤ k
+none_before P i none k some p =
+    not_less k (i + 1) (λ less.
+    let place : (k - 1) + 1 ≡ k = omega (arith, some) in
+    none (k - 1) (omega (arith, some, less)) (subst P (sym place) p))
+
+-- ---- the first post
+
+pub first_none : (c : ToldCodecs) (site : SitePlan) (earlier : List Entry) (e : Entry) (behind : List Entry) (x : Check) (o : Option ℕ) → o ≡ None → IsFirst c site earlier e behind x o
+    → FailsAt c site earlier e behind (number x) → ⊥
+first_none c site earlier e behind x None is h = h
+first_none c site earlier e behind x (Some k) is h = absurd (let y : Some k ≡ None = is in cc)
+
+pub first_some : (c : ToldCodecs) (site : SitePlan) (earlier : List Entry) (e : Entry) (behind : List Entry) (x : Check) (o : Option ℕ) (k : ℕ) → o ≡ Some k → IsFirst c site earlier e behind x o
+    → IsFirstOf c site earlier e behind x k
+first_some c site earlier e behind x None k is h = absurd (let y : None ≡ Some k = is in cc)
+first_some c site earlier e behind x (Some j) k is h = let same : j ≡ k = (let y : Some j ≡ Some k = is in cc) in subst (IsFirstOf c site earlier e behind x) same h
+
+-- the check of a number fails for the first post, and none of a lesser number
+pub least_first : (c : ToldCodecs) (site : SitePlan) (earlier : List Entry) (e : Entry) (behind : List Entry) (x : Check) (n k : ℕ) → number x ≡ n → IsFirstOf c site earlier e behind x k
+    → ((m : ℕ) → FailsAt c site earlier e behind m → n ≤ m) → IsLeastOf c site earlier e behind n k
+least_first c site earlier e behind x n k is first least = record {
+  is = subst (FailsAt c site earlier e behind) is ((are_posts c site earlier e behind x).1 (k, first.is));
+  least = least;
+  post = (x, is, first);
+}
 
 -- ---- places
 

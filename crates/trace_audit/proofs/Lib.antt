@@ -1,6 +1,5 @@
 mod Lists
 mod Levels
-mod Told
 mod Posts
 mod Entries
 mod Passing

@@ -32,7 +32,7 @@ use Rattle.trace_audit.specs.Seats.{IsAt, IsSeat, Passing, AreSeated, ShownEach,
 use Rattle.trace_audit.specs.declared.seats.Seat.{Seat}
 use Rattle.trace_audit.proofs.Lists.{at_once, at_of, at_back, at_least}
 use Rattle.trace_audit.proofs.Posts.{plan_at, posts_count, split_post, place_of, post_of, only_post, hearing_count, hearing_at}
-use Rattle.trace_audit.proofs.Told.{told_within}
+use Rattle.faultless_pasts.proofs.Told.{told_within}
 
 differ : false ≡ true → ⊥
 differ h = cc

@@ -11,7 +11,7 @@ use Rattle.told_pasts.specs.Site.{ToldPost}
 use Rattle.told_pasts.specs.Spelling.{ToldCodecs}
 use Rattle.audit_streams.specs.Streams.{IsEven}
 use Rattle.trace_audit.specs.Seats.{IsAt, IsSeat, AreSeated, AreEven}
-use Rattle.trace_audit.specs.Verdicts.{IsLeastOf, IsVerdict}
+use Rattle.trace_audit.specs.Verdicts.{IsFirstPost, IsLeastOf, IsVerdict}
 use Rattle.trace_audit.specs.declared.seats.Seat.{Seat}
 use Rattle.trace_audit.specs.declared.site.AuditedSite.{AuditedSite}
 use Rattle.trace_audit.specs.declared.verdicts.Verdict.{Verdict}
@@ -40,15 +40,24 @@ abbrev pub capped : ℕ → ℕ
 capped n = min n (2 ^ 64 - 1)
 
 -- the first fault, whatever the trace goes on with
-pub record IsFound (c : ToldCodecs) (site : SitePlan) (past : List Entry) (line check : ℕ) : Type 0 where
+pub record IsFound (c : ToldCodecs) (site : SitePlan) (past : List Entry) (line check post : ℕ) : Type 0 where
   pub newer : List Entry
   pub x : Entry
   pub e : Entry
   pub earlier : List Entry
   pub past_is : past ≡ newer ++ x ∷ (e ∷ earlier)
   pub line_is : line ≡ capped (length earlier + 2)
-  pub fails : (behind : List Entry) → Follows x behind → IsLeastOf (FailsAt c site earlier e behind) check
+  pub fails : (behind : List Entry) → Follows x behind → IsLeastOf c site earlier e behind check post
   pub clean : IsClean c site (e ∷ earlier)
+
+-- this is the first post for which a check fails at a line
+pub record IsOfPost (c : ToldCodecs) (site : SitePlan) (past : List Entry) (line check post : ℕ) : Type 0 where
+  pub behind : List Entry
+  pub e : Entry
+  pub earlier : List Entry
+  pub past_is : past ≡ behind ++ e ∷ earlier
+  pub line_is : line ≡ length earlier + 2
+  pub first : IsFirstPost c site earlier e behind check post
 
 -- ---- the newest line
 

@@ -1,5 +1,5 @@
+pub use Rattle.audited_posts.specs.Posts
 pub mod Plans
-pub mod Laws
 pub mod Seats
 pub mod Shares
 pub mod Verdicts

@@ -10,4 +10,4 @@ use Rattle.trace_audit.specs.Auditing.{capped, IsFound, IsOpen}
 -- the newest entry first
 pub record HasTaken (c : ToldCodecs) (plan : SitePlan) (past : List Entry) (line : ℕ) (fault : Option Fault) (site : AuditedSite) : Type 0 where
   pub line_is : line ≡ capped (length past + 1)
-  pub is : MatchOption fault (IsOpen c plan past site) (λ f. IsFound c plan past f.line f.check)
+  pub is : MatchOption fault (IsOpen c plan past site) (λ f. IsFound c plan past f.line f.check f.post)

@@ -17,6 +17,8 @@ pub struct Fault {
     pub line: u64,
     /// The number of the check, from 1 to 10. What each of them means stands in `told_pasts`.
     pub check: u8,
+    /// The first post for which it fails. The limit of the site is a matter of all posts, so there it is 1.
+    pub post: u8,
 }
 
 /// Judges a trace, entry by entry, for the plan of its site.
@@ -42,6 +44,7 @@ impl<R: ToldReader + Drop> Auditor<R> {
     ghost use Rattle.told_pasts.specs.Safe.{IsSafe, IsWithin};
     ghost use Rattle.faultless_pasts.specs.Faultless.{told_codecs};
     ghost use Rattle.audited_posts.specs.Posts.{IsShort};
+    ghost use Rattle.trace_audit.specs.Auditing.{IsOfPost};
     ghost use Rattle.trace_audit.specs.Taken.{HasTaken};
 
     /// Before any entry of a trace of this site. It takes all the memory that is needed.
@@ -74,21 +77,28 @@ impl<R: ToldReader + Drop> Auditor<R> {
         match self.fault {
             Some(_) => {}
             None => match self.site.verdict.before(entry) {
-                Some(check) => {
-                    self.fault = Some(Fault { line, check });
+                Some(found) => {
+                    self.fault = Some(Fault {
+                        line,
+                        check: found.check,
+                        post: found.post,
+                    });
                 }
                 None => self.site.pass(&mut self.reader, &self.plan, entry),
             },
         }
     }
 
-    /// The first check that fails, over the entries that were taken, if one does: the least line decides, and there the least check. Where none does, the
-    /// trace is safe and within the limit.
+    /// The first check that fails, over the entries that were taken, if one does: the least line decides, then the least check, and then the first post.
+    /// Where none does, the trace is safe and within the limit.
     pub fn finish(&self) -> Option<Fault>
         ensures fault { (past : List Entry) → length past < 2 ^ 64 - 2
             → HasTaken (told_codecs R.negotiates R.reads R.encodes R.responds R.watts) self.now.plan past self.now.line self.now.fault self.now.site
             → MatchOption result (IsFaultless (told_codecs R.negotiates R.reads R.encodes R.responds R.watts) self.now.plan past)
             (λ f. IsFirstFault (told_codecs R.negotiates R.reads R.encodes R.responds R.watts) self.now.plan past f.line f.check) }
+        ensures post { (past : List Entry) → length past < 2 ^ 64 - 2
+            → HasTaken (told_codecs R.negotiates R.reads R.encodes R.responds R.watts) self.now.plan past self.now.line self.now.fault self.now.site
+            → MatchOption result (Unit {0}) (λ f. IsOfPost (told_codecs R.negotiates R.reads R.encodes R.responds R.watts) self.now.plan past f.line f.check f.post) }
         ensures safe { (past : List Entry) → length past < 2 ^ 64 - 2
             → HasTaken (told_codecs R.negotiates R.reads R.encodes R.responds R.watts) self.now.plan past self.now.line self.now.fault self.now.site
             → result ≡ None
@@ -98,9 +108,10 @@ impl<R: ToldReader + Drop> Auditor<R> {
         match self.fault {
             Some(fault) => Some(fault),
             None => match self.site.verdict.ends {
-                Some(check) => Some(Fault {
+                Some(found) => Some(Fault {
                     line: self.line,
-                    check,
+                    check: found.check,
+                    post: found.post,
                 }),
                 None => None,
             },

@@ -3,7 +3,7 @@
 //!
 //! Proved: `Auditor::finish` answers the first fault of all entries that were taken as `told_pasts` defines it, the least line and there the least check,
 //! exactly where a check fails, for any codecs that judge each payload in one way; where none does, the trace is safe and within the limit. `take` and
-//! `finish` take no memory. `told_within`: whatever a trace tells, the watts that its posts were told stay within the limit.
+//! `finish` take no memory.
 #![tactic(auto)]
 
 mod auditor;
@@ -12,14 +12,5 @@ mod shares;
 mod site;
 mod verdicts;
 
-ghost use Rattle.faultless_pasts.specs.Faultless.{told_codecs};
-ghost use Rattle.trace_audit.specs.Laws.{ToldWithin};
-
 pub use auditor::{Auditor, Fault};
-use faultless_pasts::ToldCoded;
 pub use std::alloc::AllocError as NoMemory;
-
-/// Whatever a trace tells, the watts that its posts were told stay within the limit of the site together.
-pub fn told_within<C: ToldCoded>()
-    ensures { ToldWithin (told_codecs C.negotiates C.reads C.encodes C.responds C.watts) }
-{}

@@ -11,7 +11,7 @@ ghost use Rattle.faultless_pasts.specs.Faultless.{told_codecs};
 ghost use Rattle.audit_checks.specs.Checks as numbers;
 ghost use Rattle.audit_checks.specs.Checks.{FailsOf};
 ghost use Rattle.trace_audit.specs.Seats.{IsJudgedSeat, AreJudged};
-ghost use Rattle.trace_audit.specs.Verdicts.{IsEntryPlace, IsLeast, IsVerdict, fault_before};
+ghost use Rattle.trace_audit.specs.Verdicts.{IsEntryPlace, IsFirst, IsLeast, IsVerdict, fault_before};
 
 use crate::seats::Seat;
 use audit_checks::Check;
@@ -32,15 +32,24 @@ pub(crate) struct EntryPlace {
     pub above: bool,
 }
 
-/// The least check that fails at an entry, by its number, if one does.
+/// A check that fails at an entry.
+#[derive(Clone, Copy)]
+pub(crate) struct Finding {
+    /// Its number.
+    pub check: u8,
+    /// The first post for which it fails.
+    pub post: u8,
+}
+
+/// The least check that fails at an entry, if one does.
 #[derive(Clone, Copy)]
 pub(crate) struct Verdict {
     /// Where something follows that isn't heard.
-    pub goes_on: Option<u8>,
+    pub goes_on: Option<Finding>,
     /// Where a hearing follows.
-    pub hears: Option<u8>,
+    pub hears: Option<Finding>,
     /// Where nothing follows.
-    pub ends: Option<u8>,
+    pub ends: Option<Finding>,
 }
 
 /// The check of this number.
@@ -84,36 +93,65 @@ impl Seat {
     }
 }
 
-/// Whether a check fails at the newest entry.
-fn any_fails<R: ToldReader>(seats: &[Seat], check: Check, entry: &Entry, place: EntryPlace) -> bool
+/// The first post for which a check fails at the newest entry, if it does for one.
+fn first_failing<R: ToldReader>(
+    seats: &[Seat],
+    check: Check,
+    entry: &Entry,
+    place: EntryPlace,
+) -> Option<u8>
     requires some { 1 ≤ length seats.now }
     requires few { length seats.now ≤ 8 }
     ensures { (site : SitePlan) (earlier behind : List Entry) (posts : List ToldPost)
         → AreJudged (told_codecs R.negotiates R.reads R.encodes R.responds R.watts) site earlier entry.now posts seats.now
         → IsEntryPlace (told_codecs R.negotiates R.reads R.encodes R.responds R.watts) site earlier entry.now behind place
-        → (IsTrue result ↔ FailsAt (told_codecs R.negotiates R.reads R.encodes R.responds R.watts) site earlier entry.now behind (numbers.number check)) }
+        → IsFirst (told_codecs R.negotiates R.reads R.encodes R.responds R.watts) site earlier entry.now behind check result }
 {
     for i in 0..seats.len() {
         let seat = &seats[i];
         if seat.fails::<R>(check, i as u8 + 1, entry, place) {
-            return true;
+            return Some(i as u8 + 1);
         }
     }
-    false
+    None
 }
 
-/// The least check that fails at the newest entry, by its number, if one does.
-fn least<R: ToldReader>(seats: &[Seat], entry: &Entry, place: EntryPlace) -> Option<u8>
+/// The first post for which a check fails at the newest entry, if it does for one. Where it can fail for none, no post is looked at.
+fn first_due<R: ToldReader>(
+    seats: &[Seat],
+    check: Check,
+    entry: &Entry,
+    place: EntryPlace,
+) -> Option<u8>
     requires some { 1 ≤ length seats.now }
     requires few { length seats.now ≤ 8 }
     ensures { (site : SitePlan) (earlier behind : List Entry) (posts : List ToldPost)
         → AreJudged (told_codecs R.negotiates R.reads R.encodes R.responds R.watts) site earlier entry.now posts seats.now
         → IsEntryPlace (told_codecs R.negotiates R.reads R.encodes R.responds R.watts) site earlier entry.now behind place
-        → IsLeast (FailsAt (told_codecs R.negotiates R.reads R.encodes R.responds R.watts) site earlier entry.now behind) result }
+        → IsFirst (told_codecs R.negotiates R.reads R.encodes R.responds R.watts) site earlier entry.now behind check result }
+{
+    if check.may_fail::<R>(entry, place.ends, place.last, place.above) {
+        first_failing::<R>(seats, check, entry, place)
+    } else {
+        None
+    }
+}
+
+/// The least check that fails at the newest entry, and the first post for which it does, if one does.
+fn least<R: ToldReader>(seats: &[Seat], entry: &Entry, place: EntryPlace) -> Option<Finding>
+    requires some { 1 ≤ length seats.now }
+    requires few { length seats.now ≤ 8 }
+    ensures { (site : SitePlan) (earlier behind : List Entry) (posts : List ToldPost)
+        → AreJudged (told_codecs R.negotiates R.reads R.encodes R.responds R.watts) site earlier entry.now posts seats.now
+        → IsEntryPlace (told_codecs R.negotiates R.reads R.encodes R.responds R.watts) site earlier entry.now behind place
+        → IsLeast (told_codecs R.negotiates R.reads R.encodes R.responds R.watts) site earlier entry.now behind result }
 {
     for number in 1..11 {
-        if any_fails::<R>(seats, check_of(number), entry, place) {
-            return Some(number);
+        if let Some(post) = first_due::<R>(seats, check_of(number), entry, place) {
+            return Some(Finding {
+                check: number,
+                post,
+            });
         }
     }
     None
@@ -180,7 +218,7 @@ impl Verdict {
     }
 
     /// The check that fails where this entry follows, if one does.
-    pub(crate) fn before(&self, entry: &Entry) -> Option<u8>
+    pub(crate) fn before(&self, entry: &Entry) -> Option<Finding>
         ensures { result ≡ fault_before self.now entry.now }
     {
         if is_heard(entry) {

@@ -8,7 +8,7 @@ returns-in-Some-clause-taken g c past h =
     let all = told_codecs g.R.Coded.negotiates g.R.Coded.reads g.R.Coded.encodes g.R.ToldCoded.responds g.R.ToldCoded.watts in
     record {
       line_is = c.saturating_add-self.ensures ∙ line_next _ (length past) h.line_is;
-      is = fault_with _ c.in-Some.field-0 _ _ c.in-Some.is (found_still all c.args.self.now.plan past c.args.entry.now _ _ (fault_of _ c.in-Some.field-0 _ _ c.in-Some.is h.is));
+      is = fault_with _ c.in-Some.field-0 _ _ c.in-Some.is (found_still all c.args.self.now.plan past c.args.entry.now _ _ _ (fault_of _ c.in-Some.field-0 _ _ c.in-Some.is h.is));
     }
 
 pub returns-in-Some-before-clause-taken : goal.returns-in-Some-before-clause-taken
@@ -17,7 +17,7 @@ returns-in-Some-before-clause-taken g c past h =
     let so = open_of _ _ _ c.in-None.is h.is in
     record {
       line_is = c.saturating_add-self.ensures ∙ line_next _ (length past) h.line_is;
-      is = found_now all c.args.self.now.plan past c.args.entry.now c.args.self.now.site.verdict c.args.self.now.site.seats.items _ c.in-Some-before.check so.passed.judged so.clean h.line_is (sym c.before-in-None.ensures ∙ c.in-Some-before.is);
+      is = found_now all c.args.self.now.plan past c.args.entry.now c.args.self.now.site.verdict c.args.self.now.site.seats.items _ c.in-Some-before.found so.passed.judged so.clean h.line_is (sym c.before-in-None.ensures ∙ c.in-Some-before.is);
     }
 
 pub returns-in-None-before-clause-taken : goal.returns-in-None-before-clause-taken

@@ -6,7 +6,7 @@ use Rattle.faultless_pasts.specs.Faultless.{told_codecs}
 use Rattle.audit_checks.specs.Checks.{FailsOf}
 use Rattle.trace_audit.specs.Seats.{AreJudged}
 use Rattle.trace_audit.specs.Verdicts.{IsEntryPlace}
-use Rattle.trace_audit.proofs.verdicts.any_fails.Given as goal
+use Rattle.trace_audit.proofs.verdicts.first_failing.Given as goal
 
 abbrev pub invariant-loop-i : goal.invariant-loop-i
 invariant-loop-i g l = (site : SitePlan) (earlier behind : List Entry) (posts : List ToldPost)
