@@ -22,26 +22,28 @@ use Rattle.word_values.specs.Amounts.{nearest}
 use Rattle.tree_words.specs.Leaves.{number}
 use Rattle.tree_words.specs.Named.{Children, children, head, within, root_children, first_in}
 use Rattle.word_tables.specs.Tables.{Table, rows, read, written, or_empty}
+use Rattle.word_tables.proofs.Held.{number_is}
+use Rattle.message_tables.specs.Frame.{message, framed, in_message}
 use Rattle.message_tables.specs.Values.{least_of}
-use Rattle.message_tables.proofs.Read.{number_is}
+use Rattle.message_tables.proofs.Frames.{ReadsAs}
 use Rattle.din_schema.specs.Declarations.{schema}
 use Rattle.din_schema.specs.declared.names.TheConstants.{BODY, CABLE_CHECK_RES, CONTRACT_AUTHENTICATION_RES, POWER_DELIVERY_RES, PRE_CHARGE_RES, SERVICE_DISCOVERY_RES, SERVICE_PAYMENT_SELECTION_RES, SESSION_SETUP_RES, SESSION_STOP_RES, WELDING_DETECTION_RES, MULTIPLIER, VALUE, DC_EVSE_CHARGE_PARAMETER, EVSE_MAXIMUM_POWER_LIMIT, SA_SCHEDULE_LIST, SA_SCHEDULE_TUPLE, P_MAX_SCHEDULE, P_MAX_SCHEDULE_ENTRY, P_MAX}
 use Rattle.din_tables.specs.Values.{power}
-use Rattle.din_tables.specs.Frame.{message, framed}
+use Rattle.din_tables.specs.Frame.{frame}
 use Rattle.din_tables.specs.Setup.{code_alone, setup_res, discovery_res, first_mode, authorization_res}
 use Rattle.din_tables.specs.Power.{present_voltage, cable_check_res, delivery_res, demand_res, demand_told}
 use Rattle.din_tables.specs.Parameters.{schedule_entry, tuple, schedules, post_parameters, limits_of, parameters_res, parameters_told}
-use Rattle.din_tables.specs.Words.{in_message, in_tell, word_in, root}
-use Rattle.din_table_laws.proofs.Words.{ReadsAs, word_read_back}
-use Rattle.site_codec_laws.specs.Din.{Encodes}
+use Rattle.din_tables.specs.Words.{in_tell, word_in, root}
+use Rattle.told_codecs.proofs.DinReadBack.{word_read_back}
+use Rattle.told_codecs.specs.Din.{Encodes}
 use Rattle.post_spec.specs.Spelled.{read_back}
 use Rattle.post_spec.specs.Kinds.{tell_watts, size_of, schedule_watts, limits_watts}
 use Rattle.told_pasts.specs.Spelling.{SpelledWatts, watts_of, power_in, most_in, spelled_in}
 use Rattle.audit_watts.specs.Values.{no_watts}
-use Rattle.reply_watts.specs.Replies.{DinTree}
-use Rattle.reply_watts.specs.Watts.{PayloadSpells}
-use Rattle.reply_watts.specs.Din.{written_in, written_if, entry_in, tuple_in, schedules_in, parameters_in, demand_in, body_watts}
-use Rattle.own_traces.specs.Owning.{AreSingle, IsSingle}
+use Rattle.told_codecs.specs.Replies.{DinTree}
+use Rattle.told_codecs.specs.Watts.{PayloadSpells}
+use Rattle.told_codecs.specs.DinWatts.{written_in, written_if, entry_in, tuple_in, schedules_in, parameters_in, demand_in, body_watts}
+use Rattle.own_courses.specs.Owning.{AreSingle, IsSingle}
 use Rattle.own_codecs.proofs.Weighed.{IsWeighed, none_least, quiet, power_least, first_least, both_least, equal_least, whole_is, within_is, tuples_least, none_more, reply_least}
 
 -- ---- of a PhysicalValue
@@ -113,10 +115,10 @@ parameters_weigh plan x single =
 -- ---- what is written
 
 -- of a table under this name
-abbrev own_of : {X : Type 0} → ℕ → Table rows X → SessionId → X → Inside
-own_of name table s x = written (message name table) (framed s x)
+abbrev pub own_of : {X : Type 0} → ℕ → Table rows X → SessionId → X → Inside
+own_of name table s x = written (message frame name table) (framed s x)
 
-abbrev tree_watts : Tree → SpelledWatts
+abbrev pub tree_watts : Tree → SpelledWatts
 tree_watts tree = body_watts (first_in (root_children tree BODY))
 
 abbrev OwnWeighed : PostPlan → Option Inside → Type 0
@@ -124,7 +126,7 @@ OwnWeighed plan None = Unit {0}
 OwnWeighed plan (Some own) = IsWeighed plan (tree_watts (root own)) (word_in own)
 
 quiet_own : {X : Type 0} (plan : PostPlan) (name : ℕ) (table : Table rows X) (s : SessionId) (x : X) → tree_watts (root (own_of name table s x)) ≡ no_watts
-    → OwnWeighed plan (in_message name table s x)
+    → OwnWeighed plan (in_message frame name table s x)
 quiet_own plan name table s x is =
     subst (λ (w : SpelledWatts). IsWeighed plan w (word_in (own_of name table s x))) (sym is) (quiet plan (word_in (own_of name table s x)))
 
@@ -159,10 +161,12 @@ pub weighs : (plan : PostPlan) (reply : Reply) (payload : List ℕ) (watts : Spe
     → IsSingle reply.tell → spelled_in plan watts ≤ tell_watts plan (read_back reply).tell
 weighs plan reply payload watts e w single =
     let own = e.written.own in
-    let same : w.tree ≡ root own = (payload_decided schema payload).one_tree w.tree (root own) w.document (encoding_spelled schema (root own) payload e.written.encoding) in
+    let same : w.tree ≡ root own =
+    (payload_decided schema payload).one_tree w.tree (root own) w.document (encoding_spelled schema (root own) payload e.written.encoding) in
     let is : tree_watts (root own) ≡ watts = sym (w.spelled.1 ∙ ap tree_watts same) in
-    let weighed : IsWeighed plan (tree_watts (root own)) (word_in own) = subst (OwnWeighed plan) e.written.own_is (tell_weighed plan reply.session reply.code reply.tell) in
+    let weighed : IsWeighed plan (tree_watts (root own)) (word_in own) =
+    subst (OwnWeighed plan) e.written.own_is (tell_weighed plan reply.session reply.code reply.tell) in
     let reads : word_in own ≡ word.Reply (read_back reply) =
-    subst (λ (o : Option Inside). ReadsAs o (word.Reply (read_back reply))) e.written.own_is (word_read_back (word.Reply reply) e.can) in
+    subst (λ (o : Option Inside). ReadsAs word_in o (word.Reply (read_back reply))) e.written.own_is (word_read_back (word.Reply reply) e.can) in
     subst (λ (s : SpelledWatts). spelled_in plan s ≤ tell_watts plan (read_back reply).tell) is
     (reply_least plan reply (tree_watts (root own)) (word_in own) reads weighed single)

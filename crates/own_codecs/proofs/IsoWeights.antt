@@ -23,9 +23,10 @@ use Rattle.session_words.specs.declared.word.Word.TheVariants as word
 use Rattle.word_values.specs.Amounts.{nearest}
 use Rattle.tree_words.specs.Named.{Children, children, head, within, root_children, first_in}
 use Rattle.word_tables.specs.Tables.{Table, rows, read, written, first_or, or_empty}
+use Rattle.word_tables.proofs.Held.{number_is}
 use Rattle.message_tables.specs.Frame.{message, framed, in_message}
 use Rattle.message_tables.specs.Values.{least_of}
-use Rattle.message_tables.proofs.Read.{number_is}
+use Rattle.message_tables.proofs.Frames.{ReadsAs}
 use Rattle.iso_schema.specs.Declarations.{schema}
 use Rattle.iso_schema.specs.declared.names.TheConstants.{BODY, AUTHORIZATION_RES, CABLE_CHECK_RES, PAYMENT_SERVICE_SELECTION_RES, POWER_DELIVERY_RES, PRE_CHARGE_RES, SERVICE_DETAIL_RES, SERVICE_DISCOVERY_RES, SESSION_SETUP_RES, SESSION_STOP_RES, WELDING_DETECTION_RES, MULTIPLIER, VALUE, AC_EVSE_CHARGE_PARAMETER, DC_EVSE_CHARGE_PARAMETER, EVSE_MAXIMUM_POWER_LIMIT, EVSE_MAX_CURRENT, SA_SCHEDULE_LIST, SA_SCHEDULE_TUPLE, P_MAX_SCHEDULE, P_MAX_SCHEDULE_ENTRY, P_MAX}
 use Rattle.iso_tables.specs.Values.{current, power}
@@ -34,16 +35,16 @@ use Rattle.iso_tables.specs.Setup.{code_alone, setup_res, discovery_res, detail_
 use Rattle.iso_tables.specs.Power.{present_voltage, cable_check_res, delivery_res, status_parts, demand_res, demand_told, charging_res, charging_told}
 use Rattle.iso_tables.specs.Parameters.{schedule_entry, tuple, schedules, ac_post, dc_post, limits_of, limit_parts, parameters_res, parameters_told}
 use Rattle.iso_tables.specs.Words.{in_tell, word_in, root}
-use Rattle.iso_table_laws.proofs.Words.{ReadsAs, word_read_back}
-use Rattle.site_codec_laws.specs.Iso.{Encodes}
+use Rattle.told_codecs.proofs.IsoReadBack.{word_read_back}
+use Rattle.told_codecs.specs.Iso.{Encodes}
 use Rattle.post_spec.specs.Spelled.{read_back}
 use Rattle.post_spec.specs.Kinds.{tell_watts, watts_at, size_of, schedule_watts, limits_watts}
 use Rattle.told_pasts.specs.Spelling.{SpelledWatts, watts_of, power_in, current_in, most_in, spelled_in}
 use Rattle.audit_watts.specs.Values.{no_watts}
-use Rattle.reply_watts.specs.Replies.{IsoTree}
-use Rattle.reply_watts.specs.Watts.{PayloadSpells}
-use Rattle.reply_watts.specs.Iso.{written_in, written_if, entry_in, tuple_in, schedules_in, parameters_in, demand_in, status_in, body_watts}
-use Rattle.own_traces.specs.Owning.{AreSingle, IsSingle}
+use Rattle.told_codecs.specs.Replies.{IsoTree}
+use Rattle.told_codecs.specs.Watts.{PayloadSpells}
+use Rattle.told_codecs.specs.IsoWatts.{written_in, written_if, entry_in, tuple_in, schedules_in, parameters_in, demand_in, status_in, body_watts}
+use Rattle.own_courses.specs.Owning.{AreSingle, IsSingle}
 use Rattle.own_codecs.proofs.Weighed.{IsWeighed, none_least, quiet, power_least, current_least, first_least, last_least, both_least, equal_least, within_is, tuples_least, none_more, reply_least}
 
 -- ---- of a PhysicalValue
@@ -110,7 +111,8 @@ entry_is i = ap (λ (x : Children). watts_of (written_in x)) (within_is (childre
 entries_weigh : (found : List Inside) → length (map (λ i. read schedule_entry i) found) ≡ 1
     → most_in (map entry_in found) ≤ least_of (map (λ e. e.1.0.size) (map (λ i. read schedule_entry i) found))
 entries_weigh [] one = none_least 0
-entries_weigh (i ∷ []) one = first_least (watts_of (entry_in i)) (read schedule_entry i).1.0.size (equal_least (watts_of (entry_in i)) (read schedule_entry i).1.0.size (entry_is i))
+entries_weigh (i ∷ []) one =
+    first_least (watts_of (entry_in i)) (read schedule_entry i).1.0.size (equal_least (watts_of (entry_in i)) (read schedule_entry i).1.0.size (entry_is i))
 entries_weigh (i ∷ j ∷ more) one = absurd (omega (arith, one))
 
 tuple_weighs : (i : Inside) → (read tuple i).entries ≡ 1 → most_in (tuple_in i) ≤ (read tuple i).least.size
@@ -142,10 +144,10 @@ parameters_weigh plan x one single =
 -- ---- what is written
 
 -- of a table under this name
-abbrev own_of : {X : Type 0} → ℕ → Table rows X → SessionId → X → Inside
+abbrev pub own_of : {X : Type 0} → ℕ → Table rows X → SessionId → X → Inside
 own_of name table s x = written (message frame name table) (framed s x)
 
-abbrev tree_watts : Tree → SpelledWatts
+abbrev pub tree_watts : Tree → SpelledWatts
 tree_watts tree = body_watts (first_in (root_children tree BODY))
 
 abbrev OwnWeighed : PostPlan → Option Inside → Type 0
@@ -157,7 +159,7 @@ quiet_own : {X : Type 0} (plan : PostPlan) (name : ℕ) (table : Table rows X) (
 quiet_own plan name table s x is =
     subst (λ (w : SpelledWatts). IsWeighed plan w (word_in (own_of name table s x))) (sym is) (quiet plan (word_in (own_of name table s x)))
 
-abbrev parameter_rows : Code → Processing → Option (List Tuple) → PostLimits → Children
+abbrev pub parameter_rows : Code → Processing → Option (List Tuple) → PostLimits → Children
 parameter_rows c p o l = children (Holding [] (written parameters_res (c, (p, (o, (limit_parts l, tt))))))
 
 one_current : (c : Code) (p : Processing) (o : Option (List Tuple)) (l : PostLimits)
@@ -198,10 +200,12 @@ pub weighs : (plan : PostPlan) (reply : Reply) (payload : List ℕ) (watts : Spe
     → IsSingle reply.tell → spelled_in plan watts ≤ tell_watts plan (read_back reply).tell
 weighs plan reply payload watts e w single =
     let own = e.written.own in
-    let same : w.tree ≡ root own = (payload_decided schema payload).one_tree w.tree (root own) w.document (encoding_spelled schema (root own) payload e.written.encoding) in
+    let same : w.tree ≡ root own =
+    (payload_decided schema payload).one_tree w.tree (root own) w.document (encoding_spelled schema (root own) payload e.written.encoding) in
     let is : tree_watts (root own) ≡ watts = sym (w.spelled.1 ∙ ap tree_watts same) in
-    let weighed : IsWeighed plan (tree_watts (root own)) (word_in own) = subst (OwnWeighed plan) e.written.own_is (tell_weighed plan reply.session reply.code reply.tell) in
+    let weighed : IsWeighed plan (tree_watts (root own)) (word_in own) =
+    subst (OwnWeighed plan) e.written.own_is (tell_weighed plan reply.session reply.code reply.tell) in
     let reads : word_in own ≡ word.Reply (read_back reply) =
-    subst (λ (o : Option Inside). ReadsAs o (word.Reply (read_back reply))) e.written.own_is (word_read_back (word.Reply reply) e.can) in
+    subst (λ (o : Option Inside). ReadsAs word_in o (word.Reply (read_back reply))) e.written.own_is (word_read_back (word.Reply reply) e.can) in
     subst (λ (s : SpelledWatts). spelled_in plan s ≤ tell_watts plan (read_back reply).tell) is
     (reply_least plan reply (tree_watts (root own)) (word_in own) reads weighed single)

@@ -3,3 +3,7 @@ pub mod IsoWeights
 pub mod DinWeights
 pub mod Telling
 pub mod Weighing
+pub mod Written
+pub mod IsoWriting
+pub mod DinWriting
+pub mod Writing

@@ -1,5 +1,5 @@
 -- The codecs of a site tell its own words to whoever reads its trace by them.
-use Rattle.std.proofs.Common.{◌≡◌, ◌≤◌, ◌<◌, ℕ, ◌==◌, Bool, true, false, if◌then◌else◌, List, [], ◌∷◌, ◌++◌, length, Option, Some, None, is_some, refl, sym, subst, arith}
+use Rattle.std.proofs.Common.{◌≡◌, ◌≤◌, ◌<◌, ℕ, ◌==◌, Bool, true, false, if◌then◌else◌, List, [], ◌∷◌, ◌++◌, length, Option, Some, None, is_some, refl, sym, subst, arith, lit≤}
 use Rattle.std.specs.List.{AllByRecursion}
 use Rattle.charge_world.specs.declared.offer.Dialect.{Dialect}
 use Rattle.charge_world.specs.declared.offer.Dialect.TheVariants as dialect
@@ -16,22 +16,21 @@ use Rattle.app_protocol.specs.declared.message.AppCode.TheVariants as code
 use Rattle.app_protocol.specs.declared.message.AppRes.{AppRes}
 use Rattle.app_protocol.proofs.Encodings.{read_back, response_bytes}
 use Rattle.post_spec.specs.Spelled as spelled
-use Rattle.iso_table_laws.specs.Laws as iso_tables
-use Rattle.iso_table_laws.proofs.Payloads as iso_payloads
-use Rattle.din_table_laws.specs.Laws as tables
-use Rattle.din_table_laws.proofs.Payloads.{short}
-use Rattle.site_codec_laws.specs.Codecs.{Reads, Encodes}
-use Rattle.site_codec_laws.specs.Negotiating.{Negotiates}
-use Rattle.site_codec_laws.specs.Iso as iso
-use Rattle.site_codec_laws.specs.Din as din
-use Rattle.site_codec_laws.proofs.Lawful as lawful
+use Rattle.message_tables.specs.Laws.{told_bytes}
+use Rattle.told_codecs.proofs.IsoWords as iso_payloads
+use Rattle.told_codecs.proofs.DinWords as din_payloads
+use Rattle.told_codecs.specs.Site.{Reads, Encodes}
+use Rattle.told_codecs.specs.Negotiating.{Negotiates}
+use Rattle.told_codecs.specs.Iso as iso
+use Rattle.told_codecs.specs.Din as din
+use Rattle.told_codecs.proofs.Lawful as lawful
 use Rattle.told_pasts.specs.Spelling.{ToldCodecs}
 use Rattle.faultless_pasts.specs.Faultless.{told_codecs}
-use Rattle.reply_watts.specs.Replies.{IsReply}
-use Rattle.reply_watts.specs.Watts.{Watts}
+use Rattle.told_codecs.specs.Replies.{IsReply}
+use Rattle.told_codecs.specs.Watts.{Watts}
 use Rattle.told_codecs.specs.Laws as laws
 use Rattle.told_codecs.specs.Responses.{is_positive, Responds}
-use Rattle.own_traces.specs.Owning.{RespondsRightly, SpellsWatts, TellsOwn}
+use Rattle.own_courses.specs.Owning.{RespondsRightly, SpellsWatts, TellsOwn}
 
 abbrev pub own : ToldCodecs
 own = told_codecs Negotiates Reads Encodes Responds Watts
@@ -59,7 +58,8 @@ pub record IsAnswer (answer : AppRes) (chosen : Option Dialect) : Type 0 where
   pub message : IsMessage (Response (ordinal_of answer.code) answer.schema)
   pub sign : is_some chosen ≡ is_positive (ordinal_of answer.code)
 
-answers : (offers : List Dialect) (request : List Protocol) (answer : AppRes) (chosen : Option Dialect) → IsMessage (Request request) → rule.Negotiates offers request answer chosen → IsAnswer answer chosen
+answers : (offers : List Dialect) (request : List Protocol) (answer : AppRes) (chosen : Option Dialect) → IsMessage (Request request)
+    → rule.Negotiates offers request answer chosen → IsAnswer answer chosen
 answers offers request answer None m (none, is) =
     subst (λ (a : AppRes). IsAnswer a None) (sym is) (record { message = (few code.Failed, tt); sign = refl })
 answers offers request answer (Some d) m (p, chosen, is) =
@@ -81,19 +81,15 @@ responds offers payload chosen response n =
 
 -- ---- a reply is short
 
-iso_told_few : (t : Tell) → iso_tables.told_bytes t ≤ 65536
-iso_told_few (tell.ChargeParameters processing schedule limits) = omega arith
-iso_told_few t = omega arith
+told_few : (few : ℕ) → few ≤ 65536 → (t : Tell) → told_bytes few t ≤ 65536
+told_few few h (tell.ChargeParameters processing schedule limits) = omega arith
+told_few few h t = h
 
 iso_short : (reply : Reply) (payload : List ℕ) → iso.Encodes reply payload → length payload ≤ 65536
-iso_short reply payload e = omega (arith, iso_payloads.short (word.Reply reply) payload e.can e.written, iso_told_few reply.tell)
-
-told_few : (t : Tell) → tables.told_bytes t ≤ 65536
-told_few (tell.ChargeParameters processing schedule limits) = omega arith
-told_few t = omega arith
+iso_short reply payload e = omega (arith, iso_payloads.short (word.Reply reply) payload e.can e.written, told_few 320 (lit≤ tt) reply.tell)
 
 din_short : (reply : Reply) (payload : List ℕ) → din.Encodes reply payload → length payload ≤ 65536
-din_short reply payload e = omega (arith, short (word.Reply reply) payload e.can e.written, told_few reply.tell)
+din_short reply payload e = omega (arith, din_payloads.short (word.Reply reply) payload e.can e.written, told_few 256 (lit≤ tt) reply.tell)
 
 -- ---- so its watts are told
 

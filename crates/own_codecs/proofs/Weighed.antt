@@ -17,7 +17,7 @@ use Rattle.tree_words.specs.Named.{children, head, within}
 use Rattle.word_tables.specs.Tables.{or_empty}
 use Rattle.told_pasts.specs.Spelling.{Written, SpelledWatts, most_in, spelled_in}
 use Rattle.audit_watts.specs.Values.{no_watts}
-use Rattle.own_traces.specs.Owning.{IsSingle}
+use Rattle.own_courses.specs.Owning.{IsSingle}
 
 -- a word that is a reply tells no fewer watts than these, where each of its schedules has one entry
 abbrev pub IsWeighed : PostPlan → SpelledWatts → Word → Type 0
@@ -78,11 +78,13 @@ abbrev are_single : List Tuple → Type 0
 are_single = AllByRecursion (λ t. t.entries ≡ 1)
 
 -- those of all tuples, where those of each are within what it tells
-pub tuples_least : (tuple_in : Inside → List Written) (read : Inside → Tuple) → ((i : Inside) → (read i).entries ≡ 1 → most_in (tuple_in i) ≤ (read i).least.size)
+pub tuples_least : (tuple_in : Inside → List Written) (read : Inside → Tuple)
+    → ((i : Inside) → (read i).entries ≡ 1 → most_in (tuple_in i) ≤ (read i).least.size)
     → (found : List Inside) (a : ℕ) → are_single (map read found) → max a (most_in (flat_map tuple_in found)) ≤ fold max a (map (λ t. t.least.size) (map read found))
 tuples_least tuple_in read each [] a single = omega arith
 tuples_least tuple_in read each (i ∷ more) a single =
-    let both : most_in (tuple_in i ++ flat_map tuple_in more) ≡ max (most_in (tuple_in i)) (most_in (flat_map tuple_in more)) = most_both (tuple_in i) (flat_map tuple_in more) in
+    let both : most_in (tuple_in i ++ flat_map tuple_in more) ≡ max (most_in (tuple_in i)) (most_in (flat_map tuple_in more)) =
+    most_both (tuple_in i) (flat_map tuple_in more) in
     let rest : max (max a (read i).least.size) (most_in (flat_map tuple_in more)) ≤ fold max (max a (read i).least.size) (map (λ t. t.least.size) (map read more)) = tuples_least tuple_in read each more (max a (read i).least.size) single.1 in
     subst (λ (n : ℕ). max a n ≤ fold max (max a (read i).least.size) (map (λ t. t.least.size) (map read more))) (sym both)
     (more_least a (read i).least.size (most_in (tuple_in i)) (most_in (flat_map tuple_in more)) (fold max (max a (read i).least.size) (map (λ t. t.least.size) (map read more))) (each i single.0) rest)

@@ -1,1 +1,2 @@
+pub use Rattle.told_codecs.specs.Codecs
 pub mod Courses

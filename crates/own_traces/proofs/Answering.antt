@@ -73,7 +73,7 @@ pub data Answering (c : Codecs) (plan : PostPlan) (past : List Seen) (o : Option
 abbrev pub Owes : Codecs → PostPlan → List Seen → Option Order → Bool → Option Spoken → Type 0
 Owes c plan past o on reply = (spoken : Spoken) → reply ≡ Some spoken → Answering c plan past o on spoken
 
-abbrev OwesIn : Codecs → PostPlan → List Seen → State → Type 0
+abbrev pub OwesIn : Codecs → PostPlan → List Seen → State → Type 0
 OwesIn c plan past s = Owes c plan past s.agenda.order s.live s.agenda.reply
 
 silent : (c : Codecs) (plan : PostPlan) (past : List Seen) (o : Option Order) (on : Bool) (reply : Option Spoken) → reply ≡ None → Owes c plan past o on reply
@@ -302,7 +302,7 @@ acted_owes c plan past s (states.Finish cause) a taken f i owes = subst (λ (x :
 
 -- ---- all steps
 
-filled_owes : (c : Codecs) (plan : PostPlan) (S : ℕ → ℕ → Type 0) (steps : List Step) (r : Option Reading) → ReadsBack c → AreDetermined c → NegotiatesFirst c → IsPostRun c plan steps → AreHeard (map seen_of steps) → IsReadNext c plan (map seen_of steps) r
+pub filled_owes : (c : Codecs) (plan : PostPlan) (S : ℕ → ℕ → Type 0) (steps : List Step) (r : Option Reading) → ReadsBack c → AreDetermined c → NegotiatesFirst c → IsPostRun c plan steps → AreHeard (map seen_of steps) → IsReadNext c plan (map seen_of steps) r
     → IsRead c plan S (decided plan (state plan steps)) (wanted (decided plan (state plan steps))) r → OwesIn c plan (map seen_of steps) (state plan steps) → OwesIn c plan (map seen_of steps) (filled plan r (state plan steps))
 filled_owes c plan S steps r back det neg run heard next i owes =
     let past = map seen_of steps in
@@ -310,7 +310,7 @@ filled_owes c plan S steps r back det neg run heard next i owes =
     let l = run_linked c plan steps back run in
     read_owes c plan S (map seen_of steps) (state plan steps) (wanted (decided plan (state plan steps))) r refl det neg (steps_open c plan steps back run) l i next (decided_owes c plan (map seen_of steps) (state plan steps) det heard l owes)
 
-steps_owe : (c : Codecs) (plan : PostPlan) (steps : List Step) → ReadsBack c → AreDetermined c → NegotiatesFirst c → IsPostRun c plan steps → AreHeard (map seen_of steps) → AreReadInOrder c plan steps → OwesIn c plan (map seen_of steps) (state plan steps)
+pub steps_owe : (c : Codecs) (plan : PostPlan) (steps : List Step) → ReadsBack c → AreDetermined c → NegotiatesFirst c → IsPostRun c plan steps → AreHeard (map seen_of steps) → AreReadInOrder c plan steps → OwesIn c plan (map seen_of steps) (state plan steps)
 steps_owe c plan [] back det neg run heard order = silent c plan [] None false None refl
 steps_owe c plan (Hears at e ∷ steps) back det neg run heard order = silent c plan (map seen_of (Hears at e ∷ steps)) None _ None refl
 steps_owe c plan (Does r a taken ∷ steps) back det neg (run, (limit, before, behind, acts)) heard order =

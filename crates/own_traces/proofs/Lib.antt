@@ -1,3 +1,10 @@
+pub use Rattle.served_sessions.proofs.Bytes
+pub use Rattle.words_by_bytes.proofs.Read
+pub use Rattle.opens_have_reasons.proofs.Settling
+pub use Rattle.opens_have_reasons.proofs.Plain
+pub use Rattle.opens_have_reasons.proofs.Opening
+pub use Rattle.opens_have_reasons.proofs.Judging
+pub use Rattle.opens_have_reasons.proofs.Reasons
 pub mod Fronts
 pub mod Places
 pub mod Told
@@ -16,6 +23,5 @@ pub mod Resting
 pub mod Reading
 pub mod Mandates
 pub mod Closing
-pub mod Within
 pub mod Weights
 pub mod Left

@@ -24,7 +24,7 @@ use Rattle.told_pasts.specs.Spelling.{ToldCodecs, spelled_in}
 use Rattle.told_pasts.specs.Steps as told
 use Rattle.told_pasts.specs.Steps.{Said, Response, Replied, Other, Unasked, ToldStep, Sends, seen_in}
 use Rattle.told_pasts.specs.Talk.{Reply, exchange_by, exchange_of, spelled, spelled_or, spelled_by, with_said, judged_by, judged_over, replies, talk}
-use Rattle.own_traces.proofs.Within.{told_within}
+use Rattle.faultless_pasts.proofs.Told.{told_within}
 use Rattle.own_traces.proofs.Numbers.{sixth}
 use Rattle.own_traces.proofs.Places.{plan_of, run_plans}
 use Rattle.own_traces.proofs.Told.{IsToldRun, told_of as told_post, told_plan, posts_plans}

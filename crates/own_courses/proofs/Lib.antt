@@ -1,0 +1,14 @@
+pub use Rattle.own_traces.proofs.Left
+pub mod Calm
+pub mod Still
+pub mod Alike
+pub mod Unread
+pub mod Readings
+pub mod Due
+pub mod Hands
+pub mod Turns
+pub mod Watts
+pub mod Causing
+pub mod Firsts
+pub mod Opened
+pub mod Faultless
