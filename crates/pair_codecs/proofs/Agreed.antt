@@ -9,8 +9,8 @@ use Rattle.app_protocol.specs.Messages.{message_of, ordinal_of}
 use Rattle.app_protocol.specs.Negotiation.{IsAbove, IsChosen, code_for, Negotiates as Rules}
 use Rattle.app_protocol.proofs.Decided.{apart}
 use Rattle.post_spec.specs.Codecs.{Judged, Negotiated, Asked, WrongSide, Refused}
-use Rattle.site_codec_laws.specs.Negotiating.{IsNegotiated, Negotiates}
-use Rattle.site_codec_laws.proofs.EachJudged.{each_judged}
+use Rattle.car_codec_laws.specs.Negotiating.{IsNegotiated, Negotiates}
+use Rattle.car_codec_laws.proofs.EachJudged.{each_judged}
 use Rattle.car_codec_laws.specs.Offering.{entries_of, entries_from}
 use Rattle.car_codec_laws.specs.Responding.{chosen_by}
 use Rattle.pair_negotiation.specs.Agreeing.{IsPreferred, AreAgreed, AgreeOnShared}

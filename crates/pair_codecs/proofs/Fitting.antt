@@ -1,5 +1,5 @@
 -- The codecs of both ends fit together.
-use Rattle.site_codec_laws.proofs.Lawful as station
+use Rattle.car_codec_laws.proofs.SiteLawful as station
 use Rattle.car_codec_laws.proofs.Lawful as vehicle
 use Rattle.pair_readings.specs.Codecs.{AreMutual}
 use Rattle.pair_negotiation.proofs.Beginning.{pairs_begin}

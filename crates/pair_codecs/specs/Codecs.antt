@@ -3,8 +3,8 @@ use Rattle.std.specs.Prelude.{ℕ, List}
 use Rattle.session_words.specs.declared.plan.CarPlan.{CarPlan}
 use Rattle.session_words.specs.declared.plan.PostPlan.{PostPlan}
 use Rattle.post_spec.specs.Codecs as post
-use Rattle.site_codec_laws.specs.Codecs.{Reads, Encodes}
-use Rattle.site_codec_laws.specs.Negotiating.{Negotiates}
+use Rattle.car_codec_laws.specs.CodecCodecs.{Reads, Encodes}
+use Rattle.car_codec_laws.specs.Negotiating.{Negotiates}
 use Rattle.car_spec.specs.Codecs as car
 use Rattle.car_codec_laws.specs.Codecs as car_written
 use Rattle.car_codec_laws.specs.Offering.{Offers}
