@@ -112,9 +112,10 @@ def failed_checks():
     row("a trace without a fault", ["audit", "p", "t"], 0, "audit ok lines 3\n", files={"p": STATION, "t": came})
     row("an order too early", ["audit", "p", "t"], 9, "audit no line 4 check 1\n", "Line 4 of t (post 2, 40 ms) fails check 1: the contactor was ordered closed", files={"p": two, "t": came + "drove 2 close\n"})
     row("an answer to nobody", ["audit", "p", "t"], 9, "audit no line 4 check 9\n", "Line 4 of t (post 1, 40 ms) fails check 9: what was sent", files={"p": two, "t": came + "sent 1 00\n"})
-    frame = "heard 50 1 bytes 01fe8001000000228000dbab9371d3234b71d1b981899189d181818991d26b9b3a232b30020000040040\n"
-    row("a message without an answer", ["audit", "p", "t"], 9, "audit no line 4 check 10\n", "Line 4 of t (post 1, 50 ms) fails check 10: a message of the car", files={"p": STATION, "t": came + frame})
-    row("the same at two posts", ["audit", "p", "t"], 9, "audit no line 4 check 10\n", "Line 4 of t (50 ms) fails check 10", files={"p": two, "t": came + frame})
+    second = "heard 40 2 came 0000000000000002\n"
+    frame = " bytes 01fe8001000000228000dbab9371d3234b71d1b981899189d181818991d26b9b3a232b30020000040040\n"
+    row("a message without an answer", ["audit", "p", "t"], 9, "audit no line 4 check 10\n", "Line 4 of t (post 1, 50 ms) fails check 10: a message of the car", files={"p": STATION, "t": came + "heard 50 1" + frame})
+    row("the same at the second post", ["audit", "p", "t"], 9, "audit no line 5 check 10\n", "Line 5 of t (post 2, 50 ms) fails check 10", files={"p": two, "t": came + second + "heard 50 2" + frame})
 
 
 def refused_ports():

@@ -3,3 +3,4 @@ mod Verdicts
 mod Decided
 mod Leaving
 mod Complete
+pub mod Own

@@ -9,7 +9,7 @@ use Rattle.charge_world.specs.declared.heard.What.{What}
 use Rattle.charge_world.specs.declared.heard.What.TheVariants.{Came, Bytes, Gone, Datagram, Plant}
 use Rattle.trace_text.specs.TraceText.{HasBytes}
 use Rattle.replay_wire.specs.Replays.{CanBeHeard, AllCanBeHeard}
-use Rattle.audited_posts.specs.Posts.{IsShort}
+use Rattle.trace_audit.specs.Posts.{IsShort}
 
 pub one_behind : (entries : List Entry) (i : ℕ) (e : Entry) → i < length entries → e ≡ get_or entries i e → reverse (take (i + 1) entries) ≡ e ∷ reverse (take i entries)
 one_behind entries i e within is =

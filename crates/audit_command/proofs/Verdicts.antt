@@ -9,9 +9,11 @@ use Rattle.told_pasts.specs.Spelling.{ToldCodecs}
 use Rattle.trace_audit.specs.declared.auditor.Fault.{Fault}
 use Rattle.command_status.specs.declared.status.Status.{Status}
 use Rattle.command_status.specs.declared.status.Status.TheVariants as status
-use Rattle.command_status.specs.Told.{SinkTold, Writes, WritesFront}
-use Rattle.audit_command.specs.Lines.{ok_line, no_line, PrintsAs}
-use Rattle.audit_command.specs.Audits.{IsPassed, IsFailed, IsVerdict, lines_of, Audited}
+use Rattle.command_status.specs.Told.{SinkTold, Writes, WritesFront, PrintsAs}
+use Rattle.audit_command.specs.Lines.{ok_line, no_line}
+use Rattle.planned_traces.specs.Files.{FilesTold, AreFiles}
+use Rattle.audit_command.specs.Leaving.{HasFoundIn}
+use Rattle.audit_command.specs.Audits.{IsPassed, IsFailed, IsVerdict, IsOfPosts, lines_of, Audited}
 
 ok : (c : ToldCodecs) (plan : SitePlan) (entries : List Entry) (lines : ℕ) (s : Status) (before after : SinkTold) → IsPassed c plan entries → lines ≡ lines_of entries
     → PrintsAs status.Done (ok_line lines) s before after → Audited c plan entries s before after
@@ -48,6 +50,14 @@ pub verdict : (c : ToldCodecs) (own plan : SitePlan) (entries : List Entry) (fau
     → MatchOption fault (IsFaultless c own (reverse entries)) (λ f. IsFirstFault c own (reverse entries) f.line f.check)
     → (fault ≡ None → IsSafe c own (reverse entries) × IsWithin c own (reverse entries)) → IsVerdict c plan entries fault
 verdict c own plan entries fault same is safe = subst (λ (p : SitePlan). IsVerdict c p entries fault) same (by_fault c own entries fault is safe)
+
+pub of_posts : (c : ToldCodecs) (own plan : SitePlan) (entries : List Entry) (fault : Option Fault) → own ≡ plan → IsOfPosts c own entries fault → IsOfPosts c plan entries fault
+of_posts c own plan entries fault same is = subst (λ (p : SitePlan). IsOfPosts c p entries fault) same is
+
+pub found_in : (c : ToldCodecs) (tells : Type 0) (files : FilesTold) (plan : SitePlan) (entries : List Entry) (fault : Option Fault) → AreFiles tells files plan entries
+    → IsVerdict c plan entries fault → IsOfPosts c plan entries fault → HasFoundIn c tells files fault
+found_in c tells files plan entries None are is post = tt
+found_in c tells files plan entries (Some f) are is post = record { plan = plan; entries = entries; files_are = are; failed = is; post = post }
 
 -- ---- one first fault
 

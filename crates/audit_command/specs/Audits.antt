@@ -5,6 +5,7 @@ use Rattle.session_words.specs.declared.plan.SitePlan.{SitePlan}
 use Rattle.told_pasts.specs.Faults.{IsFaultless, IsFirstFault}
 use Rattle.told_pasts.specs.Safe.{IsSafe, IsWithin}
 use Rattle.told_pasts.specs.Spelling.{ToldCodecs}
+use Rattle.trace_audit.specs.Auditing.{IsOfPost}
 use Rattle.trace_audit.specs.declared.auditor.Fault.{Fault}
 use Rattle.command_status.specs.declared.status.Status.{Status}
 use Rattle.command_status.specs.declared.status.Status.TheVariants as status
@@ -23,6 +24,10 @@ IsFailed c plan entries line check = IsFirstFault c plan (reverse entries) line 
 
 abbrev pub IsVerdict : ToldCodecs → SitePlan → List Entry → Option Fault → Type 0
 IsVerdict c plan entries fault = MatchOption fault (IsPassed c plan entries) (λ f. IsFailed c plan entries f.line f.check)
+
+-- and this is the first post for which it does
+abbrev pub IsOfPosts : ToldCodecs → SitePlan → List Entry → Option Fault → Type 0
+IsOfPosts c plan entries fault = MatchOption fault (Unit {0}) (λ f. IsOfPost c plan (reverse entries) f.line f.check f.post)
 
 -- how many lines the trace has: the first, and one for each entry
 abbrev pub lines_of : List Entry → ℕ

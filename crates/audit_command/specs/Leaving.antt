@@ -1,10 +1,12 @@
 -- Own: what the command `audit` leaves.
-use Rattle.std.specs.Prelude.{◌≡◌, ◌↔◌, ◌<◌, ℕ, List, reverse, IsSomeAnd}
+use Rattle.std.specs.Prelude.{◌≡◌, ◌↔◌, ◌<◌, ℕ, List, reverse, Option, IsSomeAnd, MatchOption}
 use Rattle.charge_world.specs.declared.entry.Entry.{Entry}
 use Rattle.session_words.specs.declared.plan.SitePlan.{SitePlan}
 use Rattle.site_plan.specs.Plans.{site_told}
 use Rattle.told_pasts.specs.Faults.{IsFaultless}
 use Rattle.told_pasts.specs.Spelling.{ToldCodecs}
+use Rattle.trace_audit.specs.Auditing.{IsOfPost}
+use Rattle.trace_audit.specs.declared.auditor.Fault.{Fault}
 use Rattle.trace_files.specs.Recordings.{IsRecorded, IsRefusedAt}
 use Rattle.command_status.specs.declared.status.Status.{Status}
 use Rattle.command_status.specs.declared.status.Status.TheVariants as status
@@ -21,6 +23,17 @@ pub record WasAudited (c : ToldCodecs) (tells : Type 0) (s : Status) (files : Fi
   pub entries : List Entry
   pub files_are : AreFiles tells files plan entries
   pub audited : Audited c plan entries s before after
+
+-- the first check that fails in the trace of the second file, and its first post
+pub record IsFaultIn (c : ToldCodecs) (tells : Type 0) (files : FilesTold) (fault : Fault) : Type 0 where
+  pub plan : SitePlan
+  pub entries : List Entry
+  pub files_are : AreFiles tells files plan entries
+  pub failed : IsFailed c plan entries fault.line fault.check
+  pub post : IsOfPost c plan (reverse entries) fault.line fault.check fault.post
+
+abbrev pub HasFoundIn : ToldCodecs → Type 0 → FilesTold → Option Fault → Type 0
+HasFoundIn c tells files fault = MatchOption fault (Unit {0}) (IsFaultIn c tells files)
 
 -- the first fault of the first file's text is told by its key
 pub record IsPlanTold (tells : Type 0) (files : FilesTold) (before after : SinkTold) : Type 0 where

@@ -1,3 +1,4 @@
 pub mod Lines
 pub mod Audits
 pub mod Leaving
+pub mod Own

@@ -1,9 +1,9 @@
 -- Own: the line that an audit prints, `audit ok lines N` or `audit no line N check C` and a line feed; and the lines of its faults.
-use Rattle.std.specs.Prelude.{◌≡◌, ◌⊎◌, ℕ, List, ◌++◌, codes, decimal}
+use Rattle.std.specs.Prelude.{◌≡◌, ℕ, List, ◌++◌, codes, decimal}
 use Rattle.command_status.specs.declared.status.Status.{Status}
 use Rattle.command_status.specs.declared.status.Status.TheVariants as status
 use Rattle.command_status.specs.FaultLines.{input_line, source_line}
-use Rattle.command_status.specs.Told.{SinkTold, TellsLine, Writes, WritesFront}
+use Rattle.command_status.specs.Told.{SinkTold, TellsLine}
 use Rattle.charging_files.specs.FileLines.{key_of, RefusesBy}
 use Rattle.planned_traces.specs.declared.recording.FilesFault.{FilesFault}
 use Rattle.planned_traces.specs.declared.recording.FilesFault.TheVariants.{Unread, Plan, Line, Memory}
@@ -13,10 +13,6 @@ ok_line lines = codes "audit ok lines " ++ decimal lines ++ codes "\n"
 
 unfoldable pub no_line : ℕ → ℕ → List ℕ
 no_line line check = codes "audit no line " ++ decimal line ++ codes " check " ++ decimal check ++ codes "\n"
-
--- the line was printed, at this status, or it couldn't be, and then a front of it was
-abbrev pub PrintsAs : Status → List ℕ → Status → SinkTold → SinkTold → Type 0
-PrintsAs wanted line s before after = ((s ≡ wanted) × Writes line before after) ⊎ ((s ≡ status.SinkFault) × WritesFront line before after)
 
 -- the fault of the files was told; for want of memory there is no line
 abbrev pub Refuses : FilesFault → Status → SinkTold → SinkTold → Type 0

@@ -5,9 +5,9 @@ ghost use Rattle.std.specs.List.{AllByRecursion};
 ghost use Rattle.session_words.specs.Plans.{IsSitePlan};
 ghost use Rattle.trace_reading.specs.Readings.{IsOf};
 ghost use Rattle.faultless_pasts.specs.Faultless.{told_codecs};
-ghost use Rattle.audited_posts.specs.Posts.{IsShort};
+ghost use Rattle.trace_audit.specs.Posts.{IsShort};
 ghost use Rattle.trace_audit.specs.Taken.{HasTaken};
-ghost use Rattle.audit_command.specs.Audits.{IsVerdict};
+ghost use Rattle.audit_command.specs.Audits.{IsOfPosts, IsVerdict};
 
 use audit_streams::ToldReader;
 use charge_world::Entry;
@@ -40,7 +40,8 @@ pub(crate) fn first_fault<R: ToldReader + Drop>(
     requires of { AllByRecursion (IsOf (length plan.now.post.items)) entries.now }
     requires short { AllByRecursion IsShort entries.now }
     requires few { length entries.now < 2 ^ 63 }
-    ensures { IfOk result (IsVerdict (told_codecs R.negotiates R.reads R.encodes R.responds R.watts) plan.now entries.now) }
+    ensures verdict { IfOk result (IsVerdict (told_codecs R.negotiates R.reads R.encodes R.responds R.watts) plan.now entries.now) }
+    ensures post { IfOk result (IsOfPosts (told_codecs R.negotiates R.reads R.encodes R.responds R.watts) plan.now entries.now) }
 {
     let mut auditor = Auditor::make(alloc, reader, plan)?;
     take_all(&mut auditor, entries);

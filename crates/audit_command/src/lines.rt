@@ -1,12 +1,12 @@
 //! The lines that an audit prints.
 
 ghost use Rattle.std.specs.Prelude.{◌≡◌, MatchOption, length};
-ghost use Rattle.command_status.specs.Told.{sink_told};
-ghost use Rattle.audit_command.specs.Lines.{ok_line, no_line, PrintsAs, Refuses};
+ghost use Rattle.command_status.specs.Told.{sink_told, PrintsAs};
+ghost use Rattle.audit_command.specs.Lines.{ok_line, no_line, Refuses};
 
 use charge_world::Sink;
 use charging_files::refuse_file;
-use command_status::{Line, Status, add, add_number, line_of_input, tell_fault};
+use command_status::{Line, Status, add, add_number, line_of_input, print_line, tell_fault};
 use plan_files::PlanFileFault;
 use planned_traces::FilesFault;
 use trace_audit::Fault;
@@ -35,16 +35,6 @@ fn line_of_fault(fault: Fault) -> Line
     add_number(&mut line, u64::from(fault.check));
     add(&mut line, b"\n");
     line
-}
-
-/// Prints a line, and says this status, or `SinkFault`, where that fails.
-fn print_line<K: Sink>(out: &mut K, line: &[u8], status: Status) -> Status
-    ensures { PrintsAs status line.now result (sink_told (K.taken out.old) (K.faults out.old)) (sink_told (K.taken out.new) (K.faults out.new)) }
-{
-    match out.write(line) {
-        Ok(()) => status,
-        Err(_) => Status::SinkFault,
-    }
 }
 
 /// Prints what came of an audit of a trace of so many lines, and says the status.

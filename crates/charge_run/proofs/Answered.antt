@@ -7,6 +7,9 @@ use Rattle.charge_run.specs.Runs.{Answers, Decodes, IsDecodedLine, IsDecodeFault
 use Rattle.command_status.specs.declared.status.Status.{Status}
 use Rattle.command_status.specs.declared.status.Status.TheVariants as status
 use Rattle.command_status.specs.Told.{SinkTold, file_told}
+use Rattle.planned_traces.specs.Files.{files_told}
+use Rattle.audit_command.specs.Own.{PassesOwn}
+use Rattle.own_codecs.specs.Codecs.{charge_codecs}
 use Rattle.file_commands.specs.Offering.{OfferLeaves}
 use Rattle.payload_commands.specs.Detailing.{ServicesLeave}
 use Rattle.payload_commands.specs.Picking.{PickLeaves, WantsNothing}
@@ -52,6 +55,12 @@ pub same_encoded : (d e : MessageDialect) (a b : List ℕ) → (d ≡ e) × (a �
 same_encoded d e a b same s before after n m h =
     subst (λ (x : MessageDialect). Encodes x b s before after n m) same.0
     (subst (λ (x : List ℕ). Encodes d x s before after n m) same.1 h)
+
+pub same_owned : (holds : List ℕ → Option (List ℕ)) (tells : Type 0) (a b p q : List ℕ) → (a ≡ b) × (p ≡ q) → (s : Status) (k l : ℕ) (before after : SinkTold)
+    → PassesOwn charge_codecs tells s (files_told (holds a) (holds p) k l) before after → PassesOwn charge_codecs tells s (files_told (holds b) (holds q) k l) before after
+same_owned holds tells a b p q same s k l before after h =
+    subst (λ (x : List ℕ). PassesOwn charge_codecs tells s (files_told (holds b) (holds x) k l) before after) same.1
+    (subst (λ (x : List ℕ). PassesOwn charge_codecs tells s (files_told (holds x) (holds p) k l) before after) same.0 h)
 
 pub same_offered : (holds : List ℕ → Option (List ℕ)) (m n : ℕ) (a b : List ℕ) → (a ≡ b) × (m ≡ n) → (s : Status) (left : Option (List ℕ)) (k l : ℕ) (before after : SinkTold) →
     OfferLeaves m s (file_told (holds a) left k l) before after → OfferLeaves n s (file_told (holds b) left k l) before after

@@ -93,11 +93,6 @@ Answers IsLine IsFaultAt status.Input before after n m = (place : ℕ) × IsFaul
 Answers IsLine IsFaultAt status.NoMemory before after n m = after ≡ before
 Answers IsLine IsFaultAt _ before after n m = ⊥
 
--- the line was printed, or a front of it where it was not written
-abbrev pub Prints : List ℕ → Status → Option (List ℕ) → Option (List ℕ) → ℕ → ℕ → Type 0
-Prints line s before after n m =
-    ((s ≡ status.Done) × Appends before after line × (m ≡ n)) ⊎ ((s ≡ status.SinkFault) × AppendsSome before after line)
-
 -- the line of the fault was told; for want of memory there is none
 abbrev pub Refuses : InputFault → Status → Option (List ℕ) → Option (List ℕ) → ℕ → ℕ → Type 0
 Refuses (Place place) s before after n m = (s ≡ status.Input) × Tells before after n m (input_line place)

@@ -5,10 +5,10 @@ ghost use Rattle.command_status.specs.Completeness.{Completes};
 ghost use Rattle.std.specs.String.{string_bytes};
 ghost use Rattle.charge_run.specs.Runs.{Decodes, IsDecodedLine, IsDecodeFault, HasFault};
 
-use crate::answer::{print_line, refuse};
+use crate::answer::refuse;
 use crate::fault::InputFault;
 use charge_world::Sink;
-use command_status::Status;
+use command_status::{Status, print_line};
 use hex_payloads::bytes_of;
 use message_trees::{MessageDialect, PrintFault, print_payload};
 use std::alloc::Global;
@@ -28,7 +28,7 @@ pub(crate) fn decode<K: Sink>(
     ensures complete { Completes ((K.faults out.old, K.faults out.new) ∷ []) (Status.Input ∷ []) result }
 {
     match line_of(alloc, dialect, hex) {
-        Ok(line) => print_line(out, line.as_str()),
+        Ok(line) => print_line(out, line.as_str().as_bytes(), Status::Done),
         Err(fault) => refuse(out, fault),
     }
 }

@@ -6,10 +6,10 @@ ghost use Rattle.std.specs.String.{string_bytes};
 ghost use Rattle.message_trees.specs.Texts.{IsUnscanned};
 ghost use Rattle.charge_run.specs.Runs.{Encodes, IsEncodedLine, HasFault};
 
-use crate::answer::{print_line, refuse};
+use crate::answer::refuse;
 use crate::fault::InputFault;
 use charge_world::Sink;
-use command_status::Status;
+use command_status::{Status, print_line};
 use message_trees::{MessageDialect, ScanFault, scan_text};
 use std::alloc::Global;
 
@@ -30,7 +30,7 @@ pub(crate) fn encode<K: Sink>(
     ensures complete { Completes ((K.faults out.old, K.faults out.new) ∷ []) (Status.Input ∷ []) result }
 {
     match line_of(alloc, dialect, text) {
-        Ok(line) => print_line(out, line.as_str()),
+        Ok(line) => print_line(out, line.as_str().as_bytes(), Status::Done),
         Err(fault) => refuse(out, fault),
     }
 }

@@ -1,6 +1,7 @@
 //! All that the program does, as one call.
 //!
-//! Proved: `run`, the whole program, over any wire, files and outputs: what each command leaves, and when each status comes.
+//! Proved: `run`, the whole program, over any wire, files and outputs: what each command leaves, and when each status comes. `audited_fault`:
+//! the fault that `audit` prints, with its post.
 #![tactic(auto)]
 
 mod answer;
@@ -13,6 +14,8 @@ mod replaying;
 mod serving;
 mod top;
 
+pub use audit_command::Fault;
+pub use auditing::audited_fault;
 pub use command_status::Status;
 pub use command_words::WordList;
 pub use top::run;

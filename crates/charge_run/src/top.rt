@@ -11,7 +11,8 @@ ghost use Rattle.replay_command.specs.Served.{wire_told, IsUnbegun};
 ghost use Rattle.planned_traces.specs.Files.{files_told};
 ghost use Rattle.replay_command.specs.Replays.{ReplayLeaves};
 ghost use Rattle.audit_command.specs.Leaving.{AuditLeaves};
-ghost use Rattle.told_codecs.specs.Codecs.{charge_codecs};
+ghost use Rattle.audit_command.specs.Own.{PassesOwn};
+ghost use Rattle.own_codecs.specs.Codecs.{charge_codecs};
 ghost use Rattle.charge_run.specs.Cars.{CarLeaves};
 ghost use Rattle.file_commands.specs.Basics.{BasicLeaves};
 ghost use Rattle.migrate_command.specs.Leaving.{MigrateLeaves};
@@ -83,8 +84,8 @@ use std::alloc::Global;
 /// was.
 ///
 /// `audit`: `Done` where no check fails: then the contactors of that trace were closed only as mandated and opened by what ended a session, and its watts
-/// stayed within the limit (`IsSafe` and `IsWithin` of `told_pasts`). `AuditNo` where one fails. Before that comes what comes for `replay`. The trace
-/// and the wire stay as they were.
+/// stayed within the limit (`IsSafe` and `IsWithin` of `told_pasts`). `AuditNo` where one fails: none does in a trace of at most 256 MiB that a station wrote
+/// whole by that plan. Before that comes what comes for `replay`. The trace and the wire stay as they were.
 ///
 /// `decode`: `Input` where the text spells no bytes or the payload no message. `encode`: `Input` where no payload is written for the
 /// text. Neither uses a file, the trace or the wire.
@@ -144,6 +145,12 @@ pub fn run<F: Source, K: Sink, J: Sink, W: Wire>(
     // `audit`: the line tells the first check that fails in the trace of the file, or that none does, or the files' fault is told.
     ensures audit { (plan : List ℕ) (recorded : List ℕ) → IsAudit words.now plan recorded
         → AuditLeaves charge_codecs (TellsAlways F.left) result
+        (files_told (F.holds files.old plan) (F.holds files.old recorded) (F.faults files.old) (F.faults files.new))
+        (sink_told (K.taken out.old) (K.faults out.old)) (sink_told (K.taken out.new) (K.faults out.new)) }
+
+    // A trace of at most 256 MiB that a station wrote whole by the plan passes, but for want of memory, where both files were read and the line was written.
+    ensures own { (plan : List ℕ) (recorded : List ℕ) → IsAudit words.now plan recorded
+        → PassesOwn charge_codecs (TellsAlways F.left) result
         (files_told (F.holds files.old plan) (F.holds files.old recorded) (F.faults files.old) (F.faults files.new))
         (sink_told (K.taken out.old) (K.faults out.old)) (sink_told (K.taken out.new) (K.faults out.new)) }
 

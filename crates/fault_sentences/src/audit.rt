@@ -1,9 +1,7 @@
 //! What is said of a check that fails in a trace.
 
-use crate::trace::{heard_at, numbered_line, post_in};
+use crate::trace::{heard_at, numbered_line};
 use charge_world::Source;
-use plan_files::site_plan_in;
-use std::alloc::Global;
 use std::{fmt, io};
 
 /// What each check found, by its number from 1.
@@ -38,9 +36,9 @@ pub fn failed_check_in(line: &[u8]) -> Option<FailedCheck> {
 }
 
 impl FailedCheck {
-    /// Whether it is about the post that its line names.
-    fn is_of_line(self) -> bool {
-        matches!(self.check, 1 | 2 | 6 | 7 | 9)
+    /// Whether it is about one post, and not the limit of the site.
+    fn is_of_a_post(self) -> bool {
+        self.check != 6
     }
 
     fn finding(self) -> &'static str {
@@ -54,7 +52,7 @@ impl FailedCheck {
 /// Where a check fails: at which post, if that is told, and when, in milliseconds.
 #[derive(Clone, Copy)]
 struct Place {
-    post: Option<u64>,
+    post: Option<u8>,
     moment: Option<u64>,
 }
 
@@ -69,48 +67,24 @@ impl fmt::Display for Place {
     }
 }
 
-/// The post of a plan that has one alone.
-fn only_post<F: Source>(alloc: Global, files: &mut F, plan: &str) -> Option<u64> {
-    let plan = site_plan_in(alloc, files, plan).ok()?;
-    (plan.post.len() == 1).then_some(1)
+/// When the line with this number, from 1, came to be in the trace of the file of that name.
+fn moment_of<F: Source>(files: &mut F, name: &str, number: u64) -> Option<u64> {
+    let (line, heard) = numbered_line(files, name, number)?;
+    heard_at(line.as_slice()).or(heard)
 }
 
-/// Where a check fails in the trace of the file of that name, at the posts of a plan.
-fn place_of<F: Source>(
-    alloc: Global,
-    files: &mut F,
-    plan: &str,
-    name: &str,
-    failed: FailedCheck,
-) -> Place {
-    let only = only_post(alloc, files, plan);
-    let Some((line, heard)) = numbered_line(files, name, failed.line) else {
-        return Place {
-            post: only,
-            moment: None,
-        };
-    };
-    let named = if failed.is_of_line() {
-        post_in(line.as_slice())
-    } else {
-        None
-    };
-    Place {
-        post: named.or(only),
-        moment: heard_at(line.as_slice()).or(heard),
-    }
-}
-
-/// Says what a check found that fails in the trace of the file of that name, for the plan in another: at which post, where that is told, and when.
+/// Says what a check found that fails in the trace of the file of that name: when, and at which post, the first for which it does, where that is known.
 pub fn say_failed_check<E: Eprint, F: Source>(
     rt: &E,
-    alloc: Global,
     files: &mut F,
-    plan: &str,
     name: &str,
     failed: FailedCheck,
+    post: Option<u8>,
 ) -> io::Result<()> {
-    let place = place_of(alloc, files, plan, name, failed);
+    let place = Place {
+        post: if failed.is_of_a_post() { post } else { None },
+        moment: moment_of(files, name, failed.line),
+    };
     eprintln!(rt;
         "Line {} of {name} ({place}) fails check {}: {}.",
         failed.line,

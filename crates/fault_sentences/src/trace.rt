@@ -143,15 +143,6 @@ pub(crate) fn heard_at(line: &[u8]) -> Option<u64> {
     first_number(behind(line, "heard ")?)
 }
 
-/// The post that a line is about that tells of an act: `TURN drove POST ..` and likewise, in format 1 without the turn.
-pub(crate) fn post_in(line: &[u8]) -> Option<u64> {
-    let rest = behind(line, "drove ")
-        .or(behind(line, "sent "))
-        .or(behind(line, "answered "))
-        .or(behind(line, "ended "))?;
-    first_number(rest)
-}
-
 /// Whether a frame, in hexadecimal digits, holds a request for negotiation: behind eight bytes a payload whose first element is the first of two.
 fn is_request(frame: &str) -> bool {
     frame.get(16..20) == Some("8000")

@@ -1,6 +1,6 @@
 //! What is said behind a run.
 
-use charge_run::{Status, WordList};
+use charge_run::{Status, WordList, audited_fault};
 use fault_sentences::{
     Asked, DecodePlace, EncodePlace, failed_check_in, is_of_a_car, line_in, place_in,
     say_failed_check, say_help, say_misused, say_plan, say_script, say_trouble, say_version,
@@ -97,10 +97,17 @@ fn say_done(rt: &HostRuntime, words: &WordList, outside: Outside<'_, '_>) -> io:
 /// Says what a check found that fails.
 fn say_audit(rt: &HostRuntime, words: &WordList, outside: Outside<'_, '_>) -> io::Result<()> {
     let (plan, trace) = (word(words, 1), word(words, 2));
-    match failed_check_in(outside.out.last()) {
-        Some(failed) => say_failed_check(rt, rt.alloc(), outside.files, plan, trace, failed),
-        None => rt.eprintln("A check of the trace fails."),
-    }
+    let Some(failed) = failed_check_in(outside.out.last()) else {
+        return rt.eprintln("A check of the trace fails.");
+    };
+    let post = match audited_fault(rt.alloc(), plan, trace, outside.files) {
+        // a file may have changed since
+        Some(fault) if fault.line == failed.line && usize::from(fault.check) == failed.check => {
+            Some(fault.post)
+        }
+        _ => None,
+    };
+    say_failed_check(rt, outside.files, trace, failed, post)
 }
 
 /// Says why a plan is refused.

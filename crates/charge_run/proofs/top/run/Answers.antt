@@ -1,8 +1,9 @@
 use Rattle.std.proofs.Common.{inl, inr, [], ◌∷◌}
 use Rattle.command_words.specs.Command.{replay, audit, decode, encode, basic, migrate, offer, schedule, services, pick}
-use Rattle.charge_run.proofs.Answered.{only_refused, only_unscanned, same_decoded, same_encoded, same_offered, same_picked, same_served, wants_nothing}
-use Rattle.charge_run.proofs.WordLists.{one_decode, one_encode, one_offer, one_pick, one_services}
+use Rattle.charge_run.proofs.Answered.{only_refused, only_unscanned, same_decoded, same_encoded, same_offered, same_owned, same_picked, same_served, wants_nothing}
+use Rattle.charge_run.proofs.WordLists.{one_audit, one_decode, one_encode, one_offer, one_pick, one_services}
 use Rattle.charge_run.proofs.Complete.{unfailed}
+use Rattle.command_status.specs.Told.{sink_told, TellsAlways}
 use Rattle.command_status.specs.declared.status.Status.TheVariants as status
 use Rattle.charge_run.proofs.top.run.Goals as goal
 
@@ -35,6 +36,15 @@ pub returns-in-Ok-Replay-clause-untraced : goal.returns-in-Ok-Replay-clause-untr
 returns-in-Ok-Replay-clause-untraced g c =
     let told = (rw c.in-Ok-Replay.field-0-is at c.in-Ok-Replay.ensures.command) in
     λ none. absurd (none (inr (inl (_, _, told))))
+
+pub returns-in-Ok-Audit-clause-own : goal.returns-in-Ok-Audit-clause-own
+returns-in-Ok-Audit-clause-own g c plan recorded is =
+    let told = (rw c.in-Ok-Audit.field-0-is at c.in-Ok-Audit.ensures.command) in
+    same_owned (g.F.Source.holds c.args.files.now) (TellsAlways g.F.Source.left) c.in-Ok-Audit.plan.now plan c.in-Ok-Audit.recorded.now recorded
+    (one_audit c.args.words.now c.in-Ok-Audit.plan.now plan c.in-Ok-Audit.recorded.now recorded told is)
+    c.audit_trace.result (g.F.Source.faults c.args.files.now) (g.F.Source.faults c.audit_trace.new.files)
+    (sink_told (g.K.Sink.taken c.args.out.now) (g.K.Sink.faults c.args.out.now))
+    (sink_told (g.K.Sink.taken c.audit_trace.new.out) (g.K.Sink.faults c.audit_trace.new.out)) c.audit_trace.ensures.own
 
 pub returns-in-Ok-Audit-clause-apart : goal.returns-in-Ok-Audit-clause-apart
 returns-in-Ok-Audit-clause-apart g c =
@@ -103,6 +113,11 @@ returns-in-Err-NoCommand-clause-replay g c plan recorded is =
 
 pub returns-in-Err-NoCommand-clause-audit : goal.returns-in-Err-NoCommand-clause-audit
 returns-in-Err-NoCommand-clause-audit g c plan recorded is =
+    let none = (rw c.in-Err-NoCommand.field-0-is at c.in-Err-NoCommand.ensures.fault) in
+    absurd (none (audit plan recorded) is)
+
+pub returns-in-Err-NoCommand-clause-own : goal.returns-in-Err-NoCommand-clause-own
+returns-in-Err-NoCommand-clause-own g c plan recorded is =
     let none = (rw c.in-Err-NoCommand.field-0-is at c.in-Err-NoCommand.ensures.fault) in
     absurd (none (audit plan recorded) is)
 
