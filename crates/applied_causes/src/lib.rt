@@ -8,8 +8,11 @@
 ghost use Rattle.post_spec.specs.Codecs.{codecs};
 ghost use Rattle.applied_causes.specs.Applied.{RunsApplyCauses, RunsApplyWords};
 
+pub use caused_ends;
 pub use opens_have_reasons;
 use post_spec::Coded;
+pub use read_agendas;
+pub use served_sessions;
 
 /// In every run, what ends a session at a place, and is no word, is a cause of what was heard and done up to there. What was heard may be
 /// judged behind an order to open that was owed: it is a cause of the hearing before it (IEC 61851-1, annex A; IEC 61851-23; ISO

@@ -1,3 +1,4 @@
+pub use Rattle.site_codec_laws.specs.Negotiating
 pub use Rattle.car_codec_rules.specs.Din
 pub use Rattle.car_codec_rules.specs.Profiles
 pub use Rattle.car_codec_rules.specs.Offering

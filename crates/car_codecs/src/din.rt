@@ -7,6 +7,7 @@ ghost use Rattle.din_word_messages.specs.Spellable.{CanSpell};
 ghost use Rattle.car_codec_laws.specs.Din.{Encodes};
 ghost use Rattle.car_codec_laws.specs.Profiles.{HasNoProfile};
 
+use car_codec_laws::car_codec_rules::site_codec_rules::din_table_laws;
 use din_codec::{DinTables, write_din};
 use din_word_messages::of_request;
 use exi_events::Table;

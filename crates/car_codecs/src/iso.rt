@@ -7,6 +7,7 @@ ghost use Rattle.iso_word_messages.specs.Spellable.{CanSpell};
 ghost use Rattle.car_codec_laws.specs.Iso.{Encodes};
 ghost use Rattle.car_codec_laws.specs.Profiles.{HasNoProfile};
 
+use car_codec_laws::car_codec_rules::site_codec_rules::iso_table_laws;
 use exi_events::Table;
 use iso_codec::{IsoTables, write_iso};
 use iso_word_messages::of_request;

@@ -11,6 +11,7 @@ use din_codec::{DinTables, write_din};
 use din_word_messages::of_reply;
 use exi_events::Table;
 use session_words::Reply;
+use site_codec_laws::site_codec_rules::din_table_laws;
 
 /// Writes the encoding of a reply to the front of a room, and answers its number of bytes. The table is emptied.
 pub(crate) fn write(tables: &DinTables, reply: &Reply, room: &mut [u8], table: &mut Table) -> u32

@@ -11,6 +11,7 @@ use exi_events::Table;
 use iso_codec::{IsoTables, write_iso};
 use iso_word_messages::of_reply;
 use session_words::Reply;
+use site_codec_laws::site_codec_rules::iso_table_laws;
 
 /// Writes the encoding of a reply to the front of a room, and answers its number of bytes. The table is emptied.
 pub(crate) fn write(tables: &IsoTables, reply: &Reply, room: &mut [u8], table: &mut Table) -> u32

@@ -4,7 +4,7 @@ use Rattle.session_words.specs.declared.plan.PostPlan.{PostPlan}
 use Rattle.post_spec.specs.Codecs.{Codecs}
 use Rattle.post_spec.specs.Steps.{Step, Hears, Does}
 use Rattle.station_laws.specs.PostRuns.{IsPostRun}
-use Rattle.read_agendas.specs.Left.{AgendasAreRead}
+use Rattle.applied_causes.specs.Left.{AgendasAreRead}
 use Rattle.read_streams.specs.Streams.{StreamsAreRead}
 use Rattle.site_laws.specs.Reading.{ReadsOff}
 

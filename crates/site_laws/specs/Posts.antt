@@ -12,11 +12,11 @@ use Rattle.failed_replies.specs.Replies.{AreOpened}
 use Rattle.mandated_runs.specs.Holding.{HoldsMandated, IsHeldRightly}
 use Rattle.coming_causes_open.specs.Causing.{OpenAtCauses}
 use Rattle.applied_causes.specs.Reasons as opens
-use Rattle.caused_ends.specs.Ending.{HasNoCause, EndByCauses}
-use Rattle.caused_ends.specs.Opening.{AreReasoned, OpenAtFirstCauses}
+use Rattle.applied_causes.specs.Ending.{HasNoCause, EndByCauses}
+use Rattle.applied_causes.specs.Opening.{AreReasoned, OpenAtFirstCauses}
 use Rattle.applied_causes.specs.Applied.{ApplyCauses, ApplyWords}
 use Rattle.conforming_runs.specs.Conforming.{Conforming}
-use Rattle.served_sessions.specs.Serving.{IsWellServed}
+use Rattle.applied_causes.specs.Serving.{IsWellServed}
 use Rattle.site_laws.specs.Reading.{ReadsOff}
 
 -- Of one post, whose entries behind the last hearing's answers are `blocks`, with the closing orders `past`:

@@ -4,7 +4,7 @@ use Rattle.session_words.specs.declared.plan.PostPlan.{PostPlan}
 use Rattle.post_spec.specs.Sessions.{session}
 use Rattle.post_spec.specs.Steps.{Step, seen_of}
 use Rattle.station_spec.specs.Acting.{state}
-use Rattle.read_agendas.specs.Left.{left, IsLeft}
+use Rattle.applied_causes.specs.Left.{left, IsLeft}
 use Rattle.read_streams.specs.Streams.{IsStreamOf}
 
 -- what is left to do, and to which part of the hearing the post has come; the bytes that are unread, and from when the deadline counts

@@ -8,7 +8,7 @@ use Rattle.station_spec.specs.Sharing.{Post}
 use Rattle.station_spec.specs.Runs.{IsSiteRun}
 use Rattle.isolated_runs.specs.Isolated.{AreAlike}
 use Rattle.conforming_runs.specs.Conforming.{Conforming}
-use Rattle.served_sessions.specs.Serving.{AreServed, RestsIn}
+use Rattle.applied_causes.specs.Serving.{AreServed, RestsIn}
 
 -- what post n did, whose part of the past is `past`, it does in each whole run of any site, whatever the other posts are and do there: where it
 -- has the same plan, hears the same at the same moments, and its outcomes and shown watts are the same as far as both have some

@@ -16,19 +16,21 @@ ghost use Rattle.endpoint.specs.Telling.{Carries, CarriesText};
 ghost use Rattle.site_core.specs.Ending.{AreMade, AreMadeOf, EndedAs, RanAs, TracedAs, AwaitedAs, AreCounts, AreFaults};
 ghost use Rattle.site_laws.specs.Lawful.{IsLawful};
 
+use applied_causes::caused_ends::{
+    opens_at_first_causes, opens_for_a_reason, sessions_end_by_causes,
+};
 use applied_causes::opens_have_reasons::{every_cause_opens, opens_for_reasons};
+use applied_causes::read_agendas::agendas_are_read;
+use applied_causes::served_sessions::serves_conforming_sessions;
 use applied_causes::{applied_causes_are_causes, applied_words_are_causes};
 use blocks_of_runs::runs_are_blocks;
-use caused_ends::{opens_at_first_causes, opens_for_a_reason, sessions_end_by_causes};
 use charge_world::{Sink, Wire};
 use coming_causes_open::opens_at_causes;
 use failed_replies::no_failed_reply_while_live;
 use isolated_runs::posts_are_isolated;
 use mandated_runs::ends_as_mandated;
-use read_agendas::agendas_are_read;
 use read_streams::streams_are_read;
 use safe_runs::{closes_as_mandated, ends_open, opens_again};
-use served_sessions::serves_conforming_sessions;
 use silent_runs::sends_in_sessions;
 use site_codec::LawfulCodec;
 pub use site_core;
