@@ -5,8 +5,8 @@ usage: crate_tables.py            writes both tables
        crate_tables.py --check    exits 1 where one differs from what would be written
 
 What a crate promises is the first sentence of its head (`//!` in src/lib.rt or src/main.rt), and what is proved of it the paragraph of the
-head that begins with `Proved: `. What it stands on and its layer, a heading `## LAYER`, are in crates.txt. A crate without a layer or a head, and one
-that names a crate that stands behind it, are refused."""
+head that begins with `Proved: `. What it stands on and its layer, a heading `## LAYER`, are in crates.txt. A crate without a layer or a head, one
+that names a crate that stands behind it, and a library that the program doesn't stand on, unless it holds tests, benches or examples, are refused."""
 import os
 import re
 import sys
@@ -14,6 +14,9 @@ import sys
 from reached_paths import listed
 
 TOP = os.path.join(os.path.dirname(os.path.abspath(__file__)), "..")
+PROGRAM = "v2g_charge"
+# layers of which the program stands on nothing, or not yet
+BESIDE = ("tests and benches", "the pair")
 
 
 def read(path):
@@ -53,6 +56,20 @@ def next_below(crates):
     return {name: [it for it in words if not any(it in all_below(by) for by in words)] for name, words in named.items()}
 
 
+def beside(rows):
+    """The libraries of layers below the program on which it doesn't stand, though they hold no examples."""
+    named, found = {crate: words for _, crate, words in rows}, set()
+
+    def reach(crate):
+        if crate in named and crate not in found:
+            found.add(crate)
+            for it in named[crate]:
+                reach(it)
+
+    reach(PROGRAM)
+    return [crate for layer, crate, _ in rows if crate not in found and layer not in BESIDE and not crate.endswith("_examples")]
+
+
 def head(crate):
     """The paragraphs of a crate's head."""
     for file in ("lib", "main"):
@@ -84,6 +101,8 @@ def names(crates):
 
 def tables():
     rows = layered()
+    if beside(rows):
+        sys.exit(f"crates.txt: {PROGRAM} doesn't stand on {', '.join(beside(rows))}, which are in no layer of tests")
     crates = {crate: words for _, crate, words in rows}
     below = next_below(crates)
     places, last = "| Layer | Crate | Stands on | What it promises |\n|---|---|---|---|\n", ""
