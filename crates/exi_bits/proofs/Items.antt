@@ -135,7 +135,7 @@ rest_of_binary bits bit n some within s =
     let left = binary_long bits bit n s in
     (bytes_in (n - 1) (drop (bit + 8) bits), binary_held bits (bit + 8) (n - 1) (omega (arith, left, length-drop bit bits)))
 
-abbrev span_of : Bool → List Bool → ℕ → ℕ → Span
+abbrev pub span_of : Bool → List Bool → ℕ → ℕ → Span
 span_of text bits bit n = record { bits = bits; bit = bit; count = n; is_text = text }
 
 pub as_kind : (a b : Bool) (bits : List Bool) (bit n : ℕ) → a ≡ b → IsSpan (span_of a bits bit n) → IsSpan (span_of b bits bit n)

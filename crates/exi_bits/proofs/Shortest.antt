@@ -28,7 +28,7 @@ unfolding shortest_within
 shortest_low zero v h = refl
 shortest_low (suc more) v h = let low : ltb v 128 ≡ true = lt-ltb _ _ h in rw low refl
 
-shortest_high : (more v : ℕ) → 128 ≤ v → shortest_within (suc more) v ≡ octet true (v % 128) ++ shortest_within more (v / 128)
+pub shortest_high : (more v : ℕ) → 128 ≤ v → shortest_within (suc more) v ≡ octet true (v % 128) ++ shortest_within more (v / 128)
 unfolding shortest_within
 shortest_high more v h = let high : ltb v 128 ≡ false = le-ltb _ _ h in rw high refl
 

@@ -1,5 +1,6 @@
 -- Own: a text or a Binary as the bits that spell it.
-use Rattle.std.specs.Prelude.{◌≡◌, ◌≤◌, ℕ, Bool, true, false, List, length, drop}
+use Rattle.std.specs.Prelude.{◌≡◌, ◌≤◌, ◌<◌, ◌/◌, ◌%◌, ◌^◌, ℕ, Bool, true, false, List, [], ◌∷◌, length, drop}
+use Rattle.std.specs.List.{AllByRecursion}
 use Rattle.exi_spec.specs.Items.{SpellsChars, SpellsBytes, Begins}
 use Rattle.exi_spec.specs.Plain.{chars_in, bytes_in}
 use Rattle.exi_bits.specs.declared.span.SpanAt.{SpanAt}
@@ -36,3 +37,11 @@ items_of span = items_in span.is_text span.count (drop span.bit span.bits)
 -- the text at a place
 abbrev pub text_at : List Bool → SpanAt → Span
 text_at bits at = record { bits = bits; bit = at.bit; count = at.chars; is_text = true }
+
+-- the octets of a number of 32 bits, the highest first
+abbrev pub four_octets : ℕ → List ℕ
+four_octets word = word / 2 ^ 24 ∷ word / 2 ^ 16 % 2 ^ 8 ∷ word / 2 ^ 8 % 2 ^ 8 ∷ word % 2 ^ 8 ∷ []
+
+-- of items each of which one octet spells with no other behind it
+abbrev pub AreAscii : List ℕ → Type 0
+AreAscii items = AllByRecursion (λ item. item < 128) items

@@ -17,3 +17,9 @@ pub record HoldsBits (bytes : List ℕ) (bits : List Bool) : Type 0 where
   pub pad : ℕ
   pub short : pad < 8
   pub there : bits_of bytes ≡ bits ++ replicate pad false
+
+-- of these items those in front are written, and these are left
+pub record PutsFront (spell : List ℕ → List Bool) (old new : List ℕ) (at n : ℕ) (items left : List ℕ) : Type 0 where
+  pub front : List ℕ
+  pub split : items ≡ front ++ left
+  pub wrote : Extends old new at n (spell front)

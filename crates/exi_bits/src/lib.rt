@@ -13,6 +13,7 @@
 mod contents;
 mod cursor;
 mod lengths;
+mod lent;
 mod octets;
 mod pen;
 mod room;

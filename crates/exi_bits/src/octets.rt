@@ -1,9 +1,10 @@
 //! Numbers at a bit of a payload.
 
-ghost use Rattle.std.specs.Prelude.{◌≡◌, ℕ, ◌+◌, ◌-◌, ◌*◌, ◌%◌, ◌<◌, ◌≤◌, ◌^◌, List, ◌∷◌, ◌++◌, length, drop, pos, negsuc, if◌then◌else◌, MatchResult, MatchOption, IfOk, IfSome};
+ghost use Rattle.std.specs.Prelude.{◌≡◌, ℕ, ◌+◌, ◌-◌, ◌*◌, ◌%◌, ◌<◌, ◌≤◌, ◌^◌, List, ◌∷◌, ◌++◌, length, drop, pos, negsuc, ◌↔◌, IsTrue, if◌then◌else◌, MatchResult, MatchOption, IfOk, IfSome};
 ghost use Rattle.exi_spec.specs.Bits.{bits_of, number_bits};
 ghost use Rattle.exi_spec.specs.Items.{SpellsOctets, RefusesOctets, SpellsChar, RefusesChar, SpellsChars, RefusesChars};
 ghost use Rattle.exi_bits.specs.Reading.{ItemAt};
+ghost use Rattle.exi_bits.specs.Lent.{four_octets, AreAscii};
 
 use exi_spec::{BitCause, BitFault};
 
@@ -118,6 +119,51 @@ pub fn octet_at(payload: &[u8], bit: u32) -> Option<u32>
         return None;
     }
     Some(u32::from(whole_octet_at(payload, bit)))
+}
+
+/// The number that 32 bits spell, of four bytes and the next one where they don't begin with the first bit of a byte.
+#[inline(always)]
+fn whole_four_at(payload: &[u8], bit: u32) -> u32
+    requires { bit + 32 ≤ 8 * length payload.now }
+    ensures { drop bit (bits_of payload.now) ≡ number_bits 32 result ++ drop (bit + 32) (bits_of payload.now) }
+{
+    let index = (bit / 8) as usize;
+    let shift = bit % 8;
+    let word = u32::from_be_bytes([
+        payload[index],
+        payload[index + 1],
+        payload[index + 2],
+        payload[index + 3],
+    ]);
+    if shift == 0 {
+        word
+    } else {
+        let five = 256 * u64::from(word) + u64::from(payload[index + 4]);
+        ((five >> (8 - shift)) % (1 << 32)) as u32
+    }
+}
+
+/// The four octets at a bit as one number, and `None` where fewer than 32 bits are left.
+#[inline(always)]
+pub fn four_at(payload: &[u8], bit: u32) -> Option<u32>
+    requires room { length payload.now ≤ 65536 }
+    requires within { bit ≤ 8 * length payload.now }
+    ensures { MatchOption result (8 * length payload.now < bit + 32)
+        (λ word. (bit + 32 ≤ 8 * length payload.now)
+        × (drop bit (bits_of payload.now) ≡ number_bits 32 word ++ drop (bit + 32) (bits_of payload.now))) }
+{
+    if bits_left(payload, bit) < 32 {
+        return None;
+    }
+    Some(whole_four_at(payload, bit))
+}
+
+/// Whether each of the four octets of a number is below 128.
+#[inline(always)]
+pub fn are_ascii(word: u32) -> bool
+    ensures { IsTrue result ↔ AreAscii (four_octets word) }
+{
+    word >> 31 == 0 && (word >> 23) % 2 == 0 && (word >> 15) % 2 == 0 && (word >> 7) % 2 == 0
 }
 
 /// The Unsigned Integer at a bit, in at most ten octets, and how many bits spell it.
@@ -248,10 +294,14 @@ pub fn chars_at(payload: &[u8], bit: u32, n: u32) -> Result<u32, BitFault>
         (λ found. (chars : List ℕ) × (length chars ≡ n) × ItemAt (SpellsChars chars) (bits_of payload.now) bit found)
         (λ fault. (at : ℕ) × RefusesChars n (drop bit (bits_of payload.now)) fault.cause at × (fault.bit ≡ bit + at)) }
 {
-    let mut found = 0;
-    for _ in 0..n {
+    let mut count = ascii_front_at(payload, bit, n);
+    let mut found = 8 * count;
+    while count < n {
         match char_at(payload, bit + found) {
-            Ok((_, bits)) => found += bits,
+            Ok((_, bits)) => {
+                found += bits;
+                count += 1;
+            }
             Err(cause) => {
                 return Err(BitFault {
                     cause,
@@ -261,4 +311,22 @@ pub fn chars_at(payload: &[u8], bit: u32, n: u32) -> Result<u32, BitFault>
         }
     }
     Ok(found)
+}
+
+/// How many of n code points at a bit are below 128, each in one octet, as far as four at once are.
+fn ascii_front_at(payload: &[u8], bit: u32, n: u32) -> u32
+    requires room { length payload.now ≤ 65536 }
+    requires within { bit ≤ 8 * length payload.now }
+    ensures few { result ≤ n }
+    ensures within { bit + 8 * result ≤ 8 * length payload.now }
+    ensures found { (chars : List ℕ) × (length chars ≡ result) × ItemAt (SpellsChars chars) (bits_of payload.now) bit (8 * result) }
+{
+    let mut count = 0;
+    while n - count >= 4 {
+        match four_at(payload, bit + 8 * count) {
+            Some(word) if are_ascii(word) => count += 4,
+            _ => return count,
+        }
+    }
+    count
 }

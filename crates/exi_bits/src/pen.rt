@@ -3,10 +3,13 @@
 ghost use Rattle.std.specs.Prelude.{◌≡◌, ◌+◌, ◌*◌, ◌<◌, ◌≤◌, ◌↔◌, ◌^◌, [], ◌∷◌, length, take, pos, negsuc, ◌≤ℤ◌, if◌then◌else◌, OnOk, OnErr, IfErr, IsErr};
 ghost use Rattle.exi_spec.specs.Bits.{bits_of, number_bits};
 ghost use Rattle.exi_spec.specs.Items.{shortest_unsigned, shortest_integer, shortest_chars};
+ghost use Rattle.std.specs.List.{AllByRecursion};
+ghost use Rattle.exi_bits.specs.Lent.{items_of};
 ghost use Rattle.exi_bits.specs.Written.{PadsZero, HoldsBits};
 ghost use Rattle.std.specs.Str.{chars};
 
-use crate::room;
+use crate::span::BitSpan;
+use crate::{lent, room};
 
 /// The room is too small.
 #[derive(Clone, Copy, Debug, PartialEq, Eq)]
@@ -165,6 +168,48 @@ impl<'b> BitPen<'b> {
         room::put_all_bytes(self.room, self.bits, bytes);
         self.bits += 8 * bytes.len() as u32;
         Ok(())
+    }
+
+    /// Writes the bytes of a Binary that is lent, behind its length (7.1.1).
+    ///
+    /// `Full` exactly where the room is too small.
+    pub fn put_lent_bytes(&mut self, span: &BitSpan) -> Result<(), Full>
+        requires { AllByRecursion (λ byte. byte < 256) (items_of span.now) }
+        ensures ok { OnOk result (Writes self.old self.new (bits_of (items_of span.now))) }
+        ensures full { IsErr result ↔ Needs self.old (8 * length (items_of span.now)) }
+        ensures bits { IfErr result (λ full. full.bits ≡ length (written_bits self.old) + 8 * length (items_of span.now)) }
+        ensures stays { OnErr result (SamePen self.old self.new) }
+    {
+        self.room_for(8 * u64::from(span.len()))?;
+        self.bits += lent::put_binary(self.room, self.bits, &mut span.contents());
+        Ok(())
+    }
+
+    /// Writes the code points of a text that is lent, behind its length (7.1.10), each in its shortest spelling.
+    ///
+    /// `Full` exactly where the room is too small.
+    pub fn put_lent_chars(&mut self, span: &BitSpan) -> Result<(), Full>
+        ensures ok { OnOk result (Writes self.old self.new (shortest_chars (items_of span.now))) }
+        ensures full { IsErr result ↔ Needs self.old (length (shortest_chars (items_of span.now))) }
+        ensures bits { IfErr result (λ full. full.bits ≡ length (written_bits self.old) + length (shortest_chars (items_of span.now))) }
+        ensures stays { OnErr result (SamePen self.old self.new) }
+    {
+        self.room_for_chars(span)?;
+        self.bits += lent::put_text(self.room, self.bits, &mut span.contents());
+        Ok(())
+    }
+
+    /// Whether the code points of a text have room, which are counted only where ten octets for each would have none.
+    #[inline(always)]
+    fn room_for_chars(&self, span: &BitSpan) -> Result<(), Full>
+        ensures full { IsErr result ↔ Needs self.now (length (shortest_chars (items_of span.now))) }
+        ensures bits { IfErr result (λ full. full.bits ≡ length (written_bits self.now) + length (shortest_chars (items_of span.now))) }
+        ensures fits { OnOk result (self.now.bits + length (shortest_chars (items_of span.now)) ≤ 8 * length self.now.room.now) }
+    {
+        match self.room_for(80 * u64::from(span.len())) {
+            Ok(()) => Ok(()),
+            Err(_) => self.room_for(span.chars_bits()),
+        }
     }
 
     /// Writes the code points of a String behind its length (7.1.10), each in its shortest spelling. The text has

@@ -6,6 +6,9 @@ ghost use Rattle.exi_spec.specs.Bits.{bits_of, number_bits};
 ghost use Rattle.exi_spec.specs.Items.{shortest_unsigned, shortest_chars};
 ghost use Rattle.exi_bits.specs.Written.{PadsZero, Extends, HoldsBits};
 
+/// How many bytes are written at once.
+const WORD_BYTES: usize = 8;
+
 /// The bytes begun by the first `bits` bits of a room, where the bits behind them are 0 up to a whole byte, as a pen leaves them.
 pub fn begun_bytes(room: &[u8], bits: u32) -> &[u8]
     requires within { bits ≤ 8 * length room.now }
@@ -59,21 +62,48 @@ fn lowest_bits(number: u32, n: u32) -> u8
     (number & ((1 << n) - 1)) as u8
 }
 
-/// Writes a number in n bits.
+/// Writes a number in n bits: as one word where eight bytes of the room are left, else byte by byte.
 #[inline(always)]
 pub fn put_number(room: &mut [u8], at: u32, value: u32, n: u32)
     requires small { n ≤ 32 }
+    requires range { value < 2 ^ n }
     requires room { length room.old ≤ 65536 }
     requires within { at + n ≤ 8 * length room.old }
     requires clean { PadsZero room.old at }
     ensures { Extends room.old room.new at n (number_bits n value) }
 {
-    if n > 0 && at % 8 + n <= 8 {
-        put_part(room, at, lowest_bits(value, n), n);
-    } else if n == 8 {
-        put_octet(room, at, lowest_bits(value, 8));
+    if n > 0 && (at / 8) as usize + WORD_BYTES <= room.len() {
+        put_word(room, at, u64::from(value), n);
     } else {
         put_spread_number(room, at, value, n);
+    }
+}
+
+/// Writes a number in n bits, behind the bits of the byte that they are put into, and 0 behind them, all as one word.
+#[inline(always)]
+fn put_word(room: &mut [u8], at: u32, value: u64, n: u32)
+    requires some { 0 < n }
+    requires one_word { at % 8 + n ≤ 64 }
+    requires range { value < 2 ^ n }
+    requires room { length room.old ≤ 65536 }
+    requires within { at / 8 + 8 ≤ length room.old }
+    ensures { Extends room.old room.new at n (number_bits n value) }
+{
+    let first = (at / 8) as usize;
+    let free = 8 - at % 8;
+    let before = u64::from(room[first]) >> free << free << 56;
+    let word = before + (value << (56 + free - n));
+    put_eight_bytes(room, first, word);
+}
+
+/// Writes the eight bytes of a word from an index on.
+#[inline(always)]
+fn put_eight_bytes(room: &mut [u8], first: usize, word: u64)
+    requires { first + 8 ≤ length room.old }
+    ensures { Extends room.old room.new (8 * first) 64 (number_bits 64 word) }
+{
+    for i in 0..WORD_BYTES {
+        room[first + i] = ((word >> (56 - 8 * i as u32)) % 256) as u8;
     }
 }
 
@@ -95,22 +125,14 @@ fn put_spread_number(room: &mut [u8], at: u32, value: u32, n: u32)
 }
 
 /// Writes an octet: the whole of a byte, or the rest of one and the start of the next.
+#[inline(always)]
 fn put_octet(room: &mut [u8], at: u32, octet: u8)
     requires room { length room.old ≤ 65536 }
     requires within { at + 8 ≤ 8 * length room.old }
     requires clean { PadsZero room.old at }
     ensures { Extends room.old room.new at 8 (number_bits 8 octet) }
 {
-    let shift = at % 8;
-    put_part(room, at, octet >> shift, 8 - shift);
-    if shift > 0 {
-        put_part(
-            room,
-            at + (8 - shift),
-            lowest_bits(u32::from(octet), shift),
-            shift,
-        );
-    }
+    put_number(room, at, u32::from(octet), 8);
 }
 
 /// How many octets the shortest spelling of an Unsigned Integer has: 1 to 10.

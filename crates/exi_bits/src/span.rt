@@ -107,6 +107,20 @@ impl<'a> BitSpan<'a> {
         }
     }
 
+    /// The same text or Binary a second time: nothing of it is read.
+    pub fn again(&self) -> BitSpan<'a>
+        ensures same { result ≡ self.now }
+        ensures items { items_of result ≡ items_of self.now }
+        ensures spelled { IsSpan result }
+    {
+        BitSpan {
+            payload: self.payload,
+            bit: self.bit,
+            count: self.count,
+            is_text: self.is_text,
+        }
+    }
+
     /// A cursor at its first bit.
     pub fn cursor(&self) -> BitCursor<'a>
         ensures { result ≡ record { bits = self.now.bits; place = self.now.bit } }

@@ -186,9 +186,9 @@ impl<'b, 'p, P: Places> EventWriter<'b, 'p, P> {
         ensures put { OnSome result (PutsChild (P.schema self.old.places.now) (draft_of self.old) (draft_of self.new) name (value_of value.now)) }
         ensures whole { result ≡ None → (top : Opened) → HasWordRoom self.old top → ¬ OffersShort (P.schema self.old.places.now).kinds top.place name (value_of value.now) }
     {
+        let value = short_of(value)?;
         let top = self.open_with_room()?;
         let child = child_at(self.places, top.place, name)?;
-        let value = short_of(value)?;
         let word = child_word(self.places, top.place, name, child, value)?;
         self.put_word(&word, child.next);
         Some(())

@@ -109,7 +109,7 @@ fn texts_are_put(alloc: Global) -> bool {
     let Ok(mut table) = Partitions::make(alloc, MOST_ENTRIES) else {
         return false;
     };
-    let mut room = [0xff; 12];
+    let mut room = [0xff; 11];
     let mut pen = BitPen::new(&mut room);
     text_to(&mut pen, &mut table, 7, "ab", 24)
         // the one text of its name, and the one of all
@@ -123,7 +123,7 @@ fn texts_are_put(alloc: Global) -> bool {
         && text_to(&mut pen, &mut table, 7, "ab", 83)
         && table.globals() == 3
         && pen.finish() == 11
-        && room == [0x04, 0x61, 0x62, 0, 1, 2, 3, 0x63, 0, 0x80, 0, 0xff]
+        && room == [0x04, 0x61, 0x62, 0, 1, 2, 3, 0x63, 0, 0x80, 0]
 }
 
 /// A lent text, the letter a in two octets, is written shorter.

@@ -1,7 +1,7 @@
 -- Values of the datatypes other than String.
-use Rattle.std.proofs.Common.{◌≡◌, ℕ, ◌<◌, List, [], ◌∷◌, ◌++◌, refl, sym, subst, Result}
+use Rattle.std.proofs.Common.{ℕ, ◌<◌, refl, sym, subst, Result}
 use Rattle.std.specs.Result.{IsErr, OnErr}
-use Rattle.exi_spec.specs.Bits.{number_bits, bits_of}
+use Rattle.exi_spec.specs.Bits.{number_bits}
 use Rattle.exi_spec.proofs.BitLaws.{length-number_bits}
 use Rattle.exi_bits.specs.Pens.{Needs}
 use Rattle.exi_bits.specs.declared.pen.BitPen.{BitPen}
@@ -14,11 +14,3 @@ pub lacks_code : {T E : Type 0} (pen : BitPen) (count code width : ℕ) (r : Res
 lacks_code pen count code width r below is_width needs =
     on_err r (Lacks (SpellsCode count code) pen) (λ err.
     (number_bits width code, record { below = below; width = width; is_width = is_width; spelled = refl }, subst (λ (n : ℕ). Needs pen n) (sym (length-number_bits width code)) (needs err)))
-
-pub byte_first : (byte : ℕ) (bytes : List ℕ) → bits_of (byte ∷ bytes) ≡ number_bits 8 byte ++ bits_of bytes
-unfolding bits_of
-byte_first byte bytes = refl
-
-pub no_byte : bits_of [] ≡ []
-unfolding bits_of
-no_byte = refl

@@ -1,5 +1,5 @@
 -- What is written with a pen piece by piece.
-use Rattle.std.proofs.Common.{◌≡◌, ℕ, Bool, List, [], ◌∷◌, ◌++◌, length, refl, sym, ap, ◌∙◌, arith, append_assoc, Result, Ok, Err}
+use Rattle.std.proofs.Common.{Bool, List, [], ◌++◌, length, refl, sym, ap, ◌∙◌, arith, append_assoc, Result, Ok, Err}
 use Rattle.std.proofs.lemmas.List.{length-append, append-nil}
 use Rattle.std.specs.Result.{IsErr, OnOk, OnErr}
 use Rattle.exi_bits.specs.Pens.{written_bits, Writes, Needs, SamePen}
@@ -32,42 +32,6 @@ needs_behind a b x y p n = omega (arith, n, p.room, ap length p.written, length-
 pub had_room : (old new : BitPen) (bits : List Bool) → Writes old new bits → Needs old (length bits) → ⊥
 had_room old new bits p n =
     absurd (omega (arith, n, p.room, ap length p.written, length-append (written_bits old) bits, length-written new, new.within))
-
--- ---- items, one behind the others
-
--- of these items those in front are written
-pub record Copied (Spell : List ℕ → List Bool) (items left : List ℕ) (old new : BitPen) : Type 0 where
-  pub front : List Bool
-  pub split : Spell items ≡ front ++ Spell left
-  pub wrote : Writes old new front
-
-pub copied_more : (Spell : List ℕ → List Bool) (items left rest : List ℕ) (item : ℕ) (bits : List Bool) (old mid new : BitPen) → left ≡ item ∷ rest → Spell (item ∷ rest) ≡ bits ++ Spell rest → Copied Spell items left old mid → Writes mid new bits → Copied Spell items rest old new
-copied_more Spell items left rest item bits old mid new is spelled p q =
-    record {
-      front = p.front ++ bits;
-      split = p.split ∙ ap (λ (l : List Bool). p.front ++ l) (ap Spell is ∙ spelled) ∙ sym (append_assoc p.front bits (Spell rest));
-      wrote = writes_both old mid new p.front bits p.wrote q;
-    }
-
-pub copied_full : (Spell : List ℕ → List Bool) (items left rest : List ℕ) (item n : ℕ) (bits : List Bool) (old mid : BitPen) → left ≡ item ∷ rest → Spell (item ∷ rest) ≡ bits ++ Spell rest → Copied Spell items left old mid → length bits ≡ n → Needs mid n → Needs old (length (Spell items))
-copied_full Spell items left rest item n bits old mid is spelled p long needs =
-    let all = ap length (p.split ∙ ap (λ (l : List Bool). p.front ++ l) (ap Spell is ∙ spelled)) in
-    omega (
-      arith,
-      needs,
-      long,
-      all,
-      p.wrote.room,
-      ap length p.wrote.written,
-      length-append (written_bits old) p.front,
-      length-append p.front (bits ++ Spell rest),
-      length-append bits (Spell rest),
-    )
-
-pub copied_all : (Spell : List ℕ → List Bool) (items left : List ℕ) (old new : BitPen) → left ≡ [] → Spell [] ≡ [] → Copied Spell items left old new → Writes old new (Spell items)
-copied_all Spell items left old new is none p =
-    let all : p.front ≡ Spell items = sym (p.split ∙ ap (λ (l : List Bool). p.front ++ l) (ap Spell is ∙ none) ∙ append-nil p.front) in
-    record { written = p.wrote.written ∙ ap (λ (l : List Bool). written_bits old ++ l) all; room = p.wrote.room; lent = p.wrote.lent }
 
 -- ---- results
 

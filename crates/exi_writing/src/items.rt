@@ -79,6 +79,7 @@ pub(crate) fn put_binary(pen: &mut BitPen, span: &BitSpan) -> Result<(), Full>
 }
 
 /// The bytes of a Binary behind its length.
+#[inline(always)]
 fn put_bytes(pen: &mut BitPen, span: &BitSpan) -> Result<(), Full>
     requires { AllByRecursion (λ byte. byte < 256) (items_of span.now) }
     ensures ok { OnOk result (Writes pen.old pen.new (bits_of (items_of span.now))) }
@@ -86,9 +87,5 @@ fn put_bytes(pen: &mut BitPen, span: &BitSpan) -> Result<(), Full>
     ensures bits { IfErr result (PassesRoom pen.old) }
     ensures more { WritesMore pen.old pen.new }
 {
-    let mut bytes = span.contents();
-    while let Some(byte) = bytes.next() {
-        pen.put_bits(byte, 8)?;
-    }
-    Ok(())
+    pen.put_lent_bytes(span)
 }

@@ -71,15 +71,12 @@ impl<'t, 'a> TextSource<'t, 'a> {
 }
 
 /// The code points of a text that is lent.
+#[inline(always)]
 fn put_items(pen: &mut BitPen, span: &BitSpan) -> Result<(), Full>
     ensures ok { OnOk result (Writes pen.old pen.new (shortest_chars (items_of span.now))) }
     ensures full { OnErr result (Needs pen.old (length (shortest_chars (items_of span.now)))) }
     ensures bits { IfErr result (PassesRoom pen.old) }
     ensures more { WritesMore pen.old pen.new }
 {
-    let mut chars = span.contents();
-    while let Some(char) = chars.next() {
-        pen.put_unsigned(u64::from(char))?;
-    }
-    Ok(())
+    pen.put_lent_chars(span)
 }

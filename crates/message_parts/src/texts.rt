@@ -43,34 +43,6 @@ pub struct Binary<'a> {
     ghost binary: { span.is_text ≡ false },
 }
 
-/// The value of a text's span, once more.
-fn text_again<'a>(span: &BitSpan<'a>) -> Value<'a>
-    requires { span.now.is_text ≡ true }
-    ensures shaped { IsShaped result }
-    ensures value { value_of result ≡ TreeText (items_of span.now) }
-{
-    // for the prover, which so knows that the span is spelled there
-    let _at = span.at();
-    match span.cursor().take_chars(span.len()) {
-        Ok(again) => Value::Text(again),
-        Err(_) => Value::Written(""),
-    }
-}
-
-/// The value of a Binary's span, once more.
-fn binary_again<'a>(span: &BitSpan<'a>) -> Value<'a>
-    requires { span.now.is_text ≡ false }
-    ensures shaped { IsShaped result }
-    ensures value { value_of result ≡ TreeBytes (items_of span.now) }
-{
-    // for the prover, which so knows that the span is spelled there
-    let _at = span.at();
-    match span.cursor().take_bytes(span.len()) {
-        Ok(again) => Value::Binary(again),
-        Err(_) => Value::Bool(false),
-    }
-}
-
 /// Whether two texts have the same bytes.
 fn has_same_bytes(one: &str, other: &str) -> bool
     ensures { IsTrue result ↔ (one.now ≡ other.now) }
@@ -111,7 +83,7 @@ impl<'a> Simple<'a> for Text<'a> {
 
     fn as_value(&self) -> Value<'_> {
         match self {
-            Text::Lent(lent) => text_again(&lent.span),
+            Text::Lent(lent) => Value::Text(lent.span.again()),
             Text::Written(text) => Value::Written(text),
         }
     }
@@ -136,7 +108,7 @@ impl<'a> Simple<'a> for Binary<'a> {
     ghost value = { λ x. TreeBytes (items_of x.span) };
 
     fn as_value(&self) -> Value<'_> {
-        binary_again(&self.span)
+        Value::Binary(self.span.again())
     }
 
     fn of(read: Value<'a>) -> Binary<'a> {
