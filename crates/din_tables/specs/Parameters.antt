@@ -17,7 +17,7 @@ use Rattle.session_words.specs.declared.word.Tell.{Tell}
 use Rattle.session_words.specs.declared.word.Tell.TheVariants as tell
 use Rattle.din_schema.specs.declared.names.TheConstants.{RESPONSE_CODE, EVSE_PROCESSING, EV_REQUESTED_ENERGY_TRANSFER_TYPE, DC_EV_CHARGE_PARAMETER, DC_EV_STATUS, EV_MAXIMUM_CURRENT_LIMIT, EV_MAXIMUM_POWER_LIMIT, EV_MAXIMUM_VOLTAGE_LIMIT, SA_SCHEDULE_LIST, SA_SCHEDULE_TUPLE, SA_SCHEDULE_TUPLE_ID, P_MAX_SCHEDULE, P_MAX_SCHEDULE_ID, P_MAX_SCHEDULE_ENTRY, RELATIVE_TIME_INTERVAL, START, DURATION, P_MAX, DC_EVSE_CHARGE_PARAMETER, DC_EVSE_STATUS, EVSE_MAXIMUM_CURRENT_LIMIT, EVSE_MAXIMUM_POWER_LIMIT, EVSE_MAXIMUM_VOLTAGE_LIMIT, EVSE_MINIMUM_CURRENT_LIMIT, EVSE_MINIMUM_VOLTAGE_LIMIT, EVSE_PEAK_CURRENT_RIPPLE}
 use Rattle.din_schema.specs.declared.kinds.TheConstants.{SHORT_KIND, UNSIGNED_INT_KIND}
-use Rattle.word_tables.specs.Tables.{Table, inside, rows, natural, integer, simple, holding, meaning, nothing, once, perhaps, each, always, ◌▷◌}
+use Rattle.message_tables.specs.Tables.{Table, inside, rows, natural, integer, simple, holding, meaning, nothing, once, perhaps, each, always, ◌▷◌}
 use Rattle.message_tables.specs.Values.{list_of, Entry, entries_of, least_of}
 use Rattle.message_tables.specs.Meanings.{CarStatus}
 use Rattle.din_tables.specs.Codes.{response_code, step, wanted_mode}

@@ -13,7 +13,7 @@ use Rattle.session_words.specs.declared.word.Tell.{Tell}
 use Rattle.session_words.specs.declared.word.Tell.TheVariants as tell
 use Rattle.din_schema.specs.declared.names.TheConstants.{RESPONSE_CODE, EVSE_PROCESSING, DC_EV_STATUS, DC_EVSE_STATUS, EV_TARGET_CURRENT, EV_TARGET_VOLTAGE, CHARGING_COMPLETE, EVSE_PRESENT_VOLTAGE, EVSE_PRESENT_CURRENT, EVSE_CURRENT_LIMIT_ACHIEVED, EVSE_VOLTAGE_LIMIT_ACHIEVED, EVSE_POWER_LIMIT_ACHIEVED, EVSE_MAXIMUM_VOLTAGE_LIMIT, EVSE_MAXIMUM_CURRENT_LIMIT, EVSE_MAXIMUM_POWER_LIMIT, READY_TO_CHARGE_STATE, CHARGING_PROFILE, SA_SCHEDULE_TUPLE_ID, PROFILE_ENTRY, CHARGING_PROFILE_ENTRY_START, CHARGING_PROFILE_ENTRY_MAX_POWER}
 use Rattle.din_schema.specs.declared.kinds.TheConstants.{BOOLEAN_KIND, SHORT_KIND, UNSIGNED_INT_KIND}
-use Rattle.word_tables.specs.Tables.{Table, inside, rows, flag, natural, integer, simple, holding, meaning, nothing, once, perhaps, each, always, ◌▷◌}
+use Rattle.message_tables.specs.Tables.{Table, inside, rows, flag, natural, integer, simple, holding, meaning, nothing, once, perhaps, each, always, ◌▷◌}
 pub use Rattle.message_tables.specs.Meanings.{CarStatus, Car, Present, cable_check_asked, CableCheck, cable_check_told, PreCharge, pre_charge_asked, pre_charge_told, DemandReq, demand_asked, welding_asked, welding_told}
 use Rattle.din_tables.specs.Codes.{response_code, step}
 use Rattle.din_tables.specs.Values.{current, voltage, power, whole_watts, car_status, post_status}

@@ -8,7 +8,7 @@ use Rattle.session_words.specs.declared.word.Tell.{Tell}
 use Rattle.session_words.specs.declared.word.Tell.TheVariants as tell
 use Rattle.din_schema.specs.declared.names.TheConstants.{RESPONSE_CODE, EVCCID, EVSEID, PAYMENT_OPTIONS, PAYMENT_OPTION, CHARGE_SERVICE, SERVICE_TAG, SERVICE_ID, SERVICE_CATEGORY, FREE_SERVICE, ENERGY_TRANSFER_TYPE, SELECTED_PAYMENT_OPTION, SELECTED_SERVICE_LIST, SELECTED_SERVICE, EVSE_PROCESSING}
 use Rattle.din_schema.specs.declared.kinds.TheConstants.{BOOLEAN_KIND, UNSIGNED_SHORT_KIND, BINARY8_KIND, BINARY32_KIND, PAYMENT_OPTION_KIND, SERVICE_CATEGORY_KIND}
-use Rattle.word_tables.specs.Tables.{Table, inside, rows, flag, ordinal, natural, simple, holding, nothing, once, always, ◌▷◌}
+use Rattle.message_tables.specs.Tables.{Table, inside, rows, flag, ordinal, natural, simple, holding, nothing, once, always, ◌▷◌}
 use Rattle.message_tables.specs.Values.{some_bytes, only, list_of}
 pub use Rattle.message_tables.specs.Meanings.{SetupReq, setup_asked, Selection, selection_asked, Authorization, authorization_told}
 use Rattle.din_tables.specs.Codes.{response_code, step, offered_mode, external}

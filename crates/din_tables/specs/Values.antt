@@ -10,7 +10,7 @@ use Rattle.word_values.specs.declared.amounts.Written.{Written}
 use Rattle.word_values.specs.Amounts.{in_tenths, in_watts, written_tenths, written_watts}
 use Rattle.din_schema.specs.declared.names.TheConstants.{MULTIPLIER, UNIT, VALUE, EV_READY, EV_ERROR_CODE, EVRESS_SOC, EVSE_ISOLATION_STATUS, EVSE_STATUS_CODE, NOTIFICATION_MAX_DELAY, EVSE_NOTIFICATION}
 use Rattle.din_schema.specs.declared.kinds.TheConstants.{BOOLEAN_KIND, SHORT_KIND, UNSIGNED_INT_KIND, MULTIPLIER_KIND, PERCENT_KIND, UNIT_SYMBOL_KIND, EV_ERROR_CODE_KIND}
-use Rattle.word_tables.specs.Tables.{Table, inside, rows, flag, ordinal, natural, integer, simple, holding, meaning, nothing, once, perhaps, always, ◌▷◌}
+use Rattle.message_tables.specs.Tables.{Table, inside, rows, flag, ordinal, natural, integer, simple, holding, meaning, nothing, once, perhaps, always, ◌▷◌}
 use Rattle.message_tables.specs.Meanings.{CarStatus}
 use Rattle.din_tables.specs.Codes.{isolation, notification, status_code}
 

@@ -16,7 +16,7 @@ use Rattle.session_words.specs.declared.word.Tell.TheVariants as tell
 use Rattle.session_words.specs.declared.word.Word.{Word}
 use Rattle.session_words.specs.declared.word.Word.TheVariants as word
 use Rattle.din_schema.specs.declared.names.TheConstants.{V2G_MESSAGE, SESSION_SETUP_REQ, SESSION_SETUP_RES, SERVICE_DISCOVERY_REQ, SERVICE_DISCOVERY_RES, SERVICE_PAYMENT_SELECTION_REQ, SERVICE_PAYMENT_SELECTION_RES, CONTRACT_AUTHENTICATION_REQ, CONTRACT_AUTHENTICATION_RES, CHARGE_PARAMETER_DISCOVERY_REQ, CHARGE_PARAMETER_DISCOVERY_RES, CABLE_CHECK_REQ, CABLE_CHECK_RES, PRE_CHARGE_REQ, PRE_CHARGE_RES, POWER_DELIVERY_REQ, POWER_DELIVERY_RES, CURRENT_DEMAND_REQ, CURRENT_DEMAND_RES, WELDING_DETECTION_REQ, WELDING_DETECTION_RES, SESSION_STOP_REQ, SESSION_STOP_RES}
-use Rattle.word_tables.specs.Tables.{Table, rows, nothing}
+use Rattle.message_tables.specs.Tables.{Table, rows, nothing}
 use Rattle.message_tables.specs.Frame as frames
 use Rattle.message_tables.specs.Frame.{Message, word_inside, tree_word_by}
 use Rattle.din_tables.specs.Frame.{frame}

@@ -15,7 +15,7 @@ use Rattle.session_words.specs.declared.mode.Mode.{Mode}
 use Rattle.session_words.specs.declared.mode.OfferedMode.{OfferedMode}
 use Rattle.session_words.specs.declared.mode.OfferedMode.TheVariants as offered
 use Rattle.iso_schema.specs.declared.kinds.TheConstants.{ISOLATION_LEVEL_KIND, EVSE_STATUS_CODE_KIND, EVSE_NOTIFICATION_KIND, RESPONSE_CODE_KIND, EVSE_PROCESSING_KIND, ENERGY_TRANSFER_MODE_KIND, PAYMENT_OPTION_KIND, CHARGING_SESSION_KIND, CHARGE_PROGRESS_KIND}
-use Rattle.word_tables.specs.Tables.{Table, inside}
+use Rattle.message_tables.specs.Tables.{Table, inside}
 use Rattle.message_tables.specs.Values.{one_of_names}
 use Rattle.message_tables.specs.Codes as alike
 

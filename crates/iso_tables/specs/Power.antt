@@ -16,7 +16,7 @@ use Rattle.session_words.specs.declared.word.Tell.{Tell}
 use Rattle.session_words.specs.declared.word.Tell.TheVariants as tell
 use Rattle.iso_schema.specs.declared.names.TheConstants.{RESPONSE_CODE, EVSE_PROCESSING, DC_EV_STATUS, AC_EVSE_STATUS, DC_EVSE_STATUS, EVSEID, EV_TARGET_CURRENT, EV_TARGET_VOLTAGE, CHARGING_COMPLETE, EVSE_PRESENT_VOLTAGE, EVSE_PRESENT_CURRENT, EVSE_CURRENT_LIMIT_ACHIEVED, EVSE_VOLTAGE_LIMIT_ACHIEVED, EVSE_POWER_LIMIT_ACHIEVED, EVSE_MAXIMUM_VOLTAGE_LIMIT, EVSE_MAXIMUM_CURRENT_LIMIT, EVSE_MAXIMUM_POWER_LIMIT, EVSE_MAX_CURRENT, CHARGE_PROGRESS, CHARGING_PROFILE, SA_SCHEDULE_TUPLE_ID, PROFILE_ENTRY, CHARGING_PROFILE_ENTRY_START, CHARGING_PROFILE_ENTRY_MAX_POWER}
 use Rattle.iso_schema.specs.declared.kinds.TheConstants.{BOOLEAN_KIND, TUPLE_ID_KIND, UNSIGNED_INT_KIND}
-use Rattle.word_tables.specs.Tables.{Table, inside, rows, flag, natural, integer, simple, holding, meaning, nothing, once, perhaps, either, always, ◌▷◌}
+use Rattle.message_tables.specs.Tables.{Table, inside, rows, flag, natural, integer, simple, holding, meaning, nothing, once, perhaps, either, always, ◌▷◌}
 use Rattle.message_tables.specs.Values.{list_of}
 pub use Rattle.message_tables.specs.Meanings.{CarStatus, Car, Present, cable_check_asked, CableCheck, cable_check_told, PreCharge, pre_charge_asked, pre_charge_told, DemandReq, demand_asked, welding_asked, welding_told}
 use Rattle.iso_tables.specs.Codes.{response_code, step, charge_progress}

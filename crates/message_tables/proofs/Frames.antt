@@ -1,9 +1,9 @@
 -- A whole message in its frame: what is written reads back, and it fits what is declared and is small where its table is.
 use Rattle.std.proofs.Common.{◌≡◌, ℕ, ◌≤◌, true, List, length, Option, Some, None, ◌∙◌, ap, arith}
 use Rattle.std.specs.Prelude.{IfSome}
-use Rattle.document_sizes.specs.Sizes.{inside_weight}
+use Rattle.word_tables.specs.Sizes.{inside_weight}
 use Rattle.exi_schema.specs.Plain.{PlainKind}
-use Rattle.fitting_parts.specs.Fitting.{HoldsTrees}
+use Rattle.word_tables.specs.PartsFitting.{HoldsTrees}
 use Rattle.message_parts.specs.Contents.{Inside}
 use Rattle.session_words.specs.declared.code.Code.{Code}
 use Rattle.session_words.specs.declared.session.SessionId.{SessionId}

@@ -6,8 +6,8 @@ use Rattle.std.specs.Option.{option_map}
 use Rattle.std.proofs.lemmas.List.Elements.{All-head, All-tail, All-weaker, recursion_from_All}
 use Rattle.message_parts.specs.Contents.{Inside, each, holding}
 use Rattle.message_parts.proofs.Distinct.{same_number}
-use Rattle.tree_words.proofs.Held.{kept_each, children_held}
-use Rattle.tree_words.proofs.Lists.{reads_each}
+use Rattle.word_tables.proofs.TreeHeld.{kept_each, children_held}
+use Rattle.word_tables.proofs.Lists.{reads_each}
 use Rattle.word_tables.specs.Tables.{Table, inside, read}
 use Rattle.message_tables.specs.Values.{list_of}
 

@@ -3,12 +3,12 @@ use Rattle.std.proofs.Common.{◌≡◌, ℕ, ◌+◌, ◌*◌, ◌≤◌, true,
 use Rattle.std.specs.Prelude.{IfSome, slice_get}
 use Rattle.document_laws.proofs.Encodings.{encoding_spelled}
 use Rattle.document_laws.proofs.Payloads.{payload_decided}
-use Rattle.document_sizes.proofs.Documents.{encoding_small, document_fits}
-use Rattle.document_sizes.proofs.Parts.{root_sum}
-use Rattle.document_sizes.specs.Sizes.{has_narrow_codes, tree_weight, inside_weight}
-use Rattle.fitting_parts.proofs.Few.{few_texts}
-use Rattle.fitting_parts.proofs.Fitted.{root_fits}
-use Rattle.fitting_parts.specs.Counted.{has_few_texts}
+use Rattle.word_tables.proofs.Documents.{encoding_small, document_fits}
+use Rattle.word_tables.proofs.Parts.{root_sum}
+use Rattle.word_tables.specs.Sizes.{has_narrow_codes, tree_weight, inside_weight}
+use Rattle.word_tables.proofs.Few.{few_texts}
+use Rattle.word_tables.proofs.Fitted.{root_fits}
+use Rattle.word_tables.specs.Counted.{has_few_texts}
 use Rattle.kind_laws.specs.Kinds.{FitsSchema}
 use Rattle.kind_laws.proofs.Encoded.{encoded}
 use Rattle.message_parts.specs.Contents.{Inside, Of, Holding, root_of}

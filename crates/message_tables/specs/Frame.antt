@@ -10,7 +10,7 @@ use Rattle.session_words.specs.declared.word.Ask.{Ask}
 use Rattle.session_words.specs.declared.word.Tell.{Tell}
 use Rattle.session_words.specs.declared.word.Word.{Word}
 use Rattle.session_words.specs.declared.word.Word.TheVariants as word
-use Rattle.tree_words.specs.Named.{children, first_in}
+use Rattle.word_tables.specs.Named.{children, first_in}
 use Rattle.word_tables.specs.Tables.{Table, inside, rows, holding, nothing, once, read, written, is_apart, ◌▷◌}
 use Rattle.word_tables.specs.Fitting.{fits, bits}
 use Rattle.message_tables.specs.Values.{some_bytes}

@@ -4,3 +4,4 @@ pub mod Codes
 pub mod Frame
 pub mod Spellable
 pub mod Laws
+pub use Rattle.word_tables.specs.Tables

@@ -14,9 +14,9 @@ use Rattle.exi_schema.proofs.Conditions.{and-l, and-r}
 use Rattle.exi_documents.specs.Trees.{Value, Trees, none}
 use Rattle.exi_documents.specs.Values.{IsValue}
 use Rattle.kind_laws.specs.Kinds.{HasValue}
-use Rattle.message_parts.specs.Contents.{Holding, element, perhaps_trees, each_trees, Given, given, perhaps_given, Part, one, perhaps as perhaps_part, each as each_part, attributes_of, trees_of}
-use Rattle.message_parts.specs.Particles.{alternatives, kind_among, has_room_for}
-use Rattle.message_parts.proofs.Distinct.{number_is}
+use Rattle.tree_words.specs.Contents.{Holding, element, perhaps_trees, each_trees, Given, given, perhaps_given, Part, one, perhaps as perhaps_part, each as each_part, attributes_of, trees_of}
+use Rattle.tree_words.specs.Particles.{alternatives, kind_among, has_room_for}
+use Rattle.tree_words.proofs.Distinct.{number_is}
 use Rattle.fitting_parts.specs.Fitting.{HoldsTrees, FitsGiven, FitsElement, FitsPart, FitsParts, takes_copies}
 use Rattle.fitting_parts.proofs.Fitted.{holding_held}
 use Rattle.word_tables.specs.Tables.{Sort, inside, rows, attribute_rows, Table, simple, holding, attributed, meaning, nothing, once, perhaps, each, either, always, no_attributes, attribute_row, picked, placed, Place, value_of, written}

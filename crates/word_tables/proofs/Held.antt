@@ -1,6 +1,6 @@
 -- What a table reads of an element that is made of parts, and of one that may not be there.
 use Rattle.std.proofs.Common.{◌≡◌, List, [], ◌∷◌, refl, ap}
-use Rattle.message_parts.specs.Contents.{Inside, Part, holding}
+use Rattle.tree_words.specs.Contents.{Inside, Part, holding}
 use Rattle.tree_words.specs.Leaves.{number_in, number}
 use Rattle.tree_words.specs.Named.{head, children}
 use Rattle.tree_words.proofs.Held.{held, children_held}

@@ -3,8 +3,8 @@ use Rattle.std.proofs.Common.{◌≡◌, ℕ, ◌==◌, ◌&&◌, ◌||◌, not,
 use Rattle.std.specs.Option.{option_map}
 use Rattle.exi_schema.proofs.Conditions.{and-l, and-r}
 use Rattle.exi_documents.specs.Trees.{Value, Trees}
-use Rattle.message_parts.specs.Contents.{Inside, Of, Holding, element, perhaps_trees, each_trees}
-use Rattle.message_parts.proofs.Distinct.{same_number, number_is}
+use Rattle.tree_words.specs.Contents.{Inside, Of, Holding, element, perhaps_trees, each_trees}
+use Rattle.tree_words.proofs.Distinct.{same_number, number_is}
 use Rattle.tree_words.specs.Attributes.{value_or, attribute_named}
 use Rattle.tree_words.specs.Named.{Children, kept, named, head}
 use Rattle.word_tables.specs.Tables.{Leaf, flag, ordinal, natural, integer, bytes, text, Sort, inside, rows, attribute_rows, Table, simple, holding, attributed, meaning, nothing, once, perhaps, each, either, always, no_attributes, attribute_row, first_or, picked, placed, of_either, Place, leaf_in, or_empty, value_or_empty, read, value_of, written, back, names, has, is_apart}

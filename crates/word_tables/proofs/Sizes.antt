@@ -9,7 +9,7 @@ use Rattle.exi_schema.specs.Plain.{PlainKind}
 use Rattle.exi_schema.specs.Steps.{simple_at}
 use Rattle.exi_documents.specs.Trees.{Value, Truth, Ordinal, Number, Bytes, Text, Trees}
 use Rattle.exi_documents.specs.Values.{IsValue}
-use Rattle.message_parts.specs.Contents.{Inside, Of, Holding, element, perhaps_trees, each_trees}
+use Rattle.tree_words.specs.Contents.{Inside, Of, Holding, element, perhaps_trees, each_trees}
 use Rattle.document_sizes.specs.Sizes.{value_weight, simple_weight, attributes_weight, trees_weight, inside_weight}
 use Rattle.word_tables.specs.Tables.{Sort, inside, rows, attribute_rows, Table, simple, holding, attributed, meaning, nothing, once, perhaps, each, either, always, no_attributes, attribute_row, picked, placed, Place, value_of, written}
 use Rattle.word_tables.specs.Fitting.{IsValueOf, IfEither, CanWrite, datatype_bits, value_bits, simple_bits, bits}

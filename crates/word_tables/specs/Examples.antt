@@ -2,7 +2,7 @@
 use Rattle.std.specs.Prelude.{ℕ, pos, Bool, true, List, [], ◌∷◌, codes, Option, None}
 use Rattle.exi_schema.specs.declared.tables.Datatype.TheVariants.{Bool as BoolType, Bounded, Text as TextType}
 use Rattle.exi_schema.specs.Plain.{PlainKind, valued, containing, once as one_element, perhaps as perhaps_element, up_to}
-use Rattle.message_parts.specs.Particles.{must}
+use Rattle.tree_words.specs.Particles.{must}
 use Rattle.word_tables.specs.Tables.{Table, inside, rows, attribute_rows, flag, natural, text, simple, holding, attributed, nothing, once, perhaps, each, no_attributes, attribute_row, ◌▷◌}
 
 -- its name is an attribute; its elements are whether it shines, perhaps a note, and one or two hours

@@ -10,7 +10,7 @@ use Rattle.exi_schema.specs.Plain.{PlainKind, valued, containing, PlainParticle}
 use Rattle.exi_schema.specs.Steps.{simple_at}
 use Rattle.exi_documents.specs.Trees.{Value}
 use Rattle.exi_documents.specs.Values.{IsValue}
-use Rattle.message_parts.specs.Particles.{alternatives, kind_among}
+use Rattle.tree_words.specs.Particles.{alternatives, kind_among}
 use Rattle.fitting_parts.specs.Fitting.{takes_copies}
 use Rattle.word_tables.specs.Tables.{value_of, Sort, inside, rows, attribute_rows, Table, simple, holding, attributed, meaning, nothing, once, perhaps, each, either, always, no_attributes, attribute_row}
 

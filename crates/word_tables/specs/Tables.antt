@@ -3,7 +3,7 @@ use Rattle.std.specs.Prelude.{ℕ, ◌==◌, ◌&&◌, ◌||◌, not, ℤ, pos, 
 use Rattle.std.proofs.Common.{inl, inr}
 use Rattle.std.specs.Option.{option_map}
 use Rattle.exi_documents.specs.Trees.{Value, Truth, Ordinal, Number, Bytes, Text, Trees, none}
-use Rattle.message_parts.specs.Contents.{Inside, Of, Holding, element, perhaps_trees, each_trees}
+use Rattle.tree_words.specs.Contents.{Inside, Of, Holding, element, perhaps_trees, each_trees}
 use Rattle.tree_words.specs.Leaves.{truth_in, ordinal_in, number_in, natural_in, bytes_in, text_in}
 use Rattle.tree_words.specs.Attributes.{given_in, attribute_named}
 use Rattle.tree_words.specs.Named.{Children, children, head}

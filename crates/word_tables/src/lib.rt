@@ -7,7 +7,7 @@
 
 ghost use Rattle.std.specs.Prelude.{◌≡◌, ◌∷◌, [], true, false, pos, codes};
 ghost use Rattle.exi_documents.specs.Trees.{Truth, Number, Text, none, simple};
-ghost use Rattle.message_parts.specs.Contents.{Holding};
+ghost use Rattle.tree_words.specs.Contents.{Holding};
 ghost use Rattle.word_tables.specs.Tables.{is_apart, read, written};
 ghost use Rattle.word_tables.specs.Fitting.{fits, bits};
 ghost use Rattle.word_tables.specs.Examples.{kinds, lamp, hall, nameless, named_by_hours, named_twice, without_hours, with_another, shining_by_hours, shining_twice, hours_first, many_hours};
