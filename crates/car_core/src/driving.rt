@@ -6,13 +6,14 @@ ghost use Rattle.car_spec.specs.Codecs.{codecs};
 ghost use Rattle.car_acts.specs.Reporting.{reported};
 ghost use Rattle.car_turns.specs.Ending.{EndedAs, TracedAs, AreFaults};
 ghost use Rattle.car_core.specs.Lawful.{IsDrivenLawfully};
-ghost use Rattle.car_core.specs.Made.{IsMadeOf};
+ghost use Rattle.car_turns.specs.Made.{IsMadeOf};
 
 use crate::lawful::law_of_cars;
-use crate::site::CarSite;
 use car_codec::LawfulCarCodec;
-use car_turns::{Ended, drive};
+use car_turns::{CarSite, Ended};
 use charge_world::{Sink, Wire};
+use end_turns::{End, run};
+use endpoint::SoFar;
 
 /// Drives a car that was just made, on a wire that was started for a car, until the car ends, the wire says Over, a hearing fails, a line of
 /// the trace can't be written, or the last turn is made. At the end a live contactor is ordered open.
@@ -41,5 +42,6 @@ pub fn drive_car<C: LawfulCarCodec, W: Wire, J: Sink>(
     ensures trace_fault { AreFaults (J.faults trace.old) (J.faults trace.new) result }
 {
     law_of_cars::<C>();
-    drive(&mut car.desk, &mut car.driver, wire, trace)
+    let stopped = run(car, &mut SoFar::nothing(), wire, trace);
+    Ended::by(stopped, car.is_over())
 }

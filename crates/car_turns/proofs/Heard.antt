@@ -1,5 +1,5 @@
 -- A hearing carries a run to a run, as a lost one does.
-use Rattle.std.proofs.Common.{◌≡◌, ◌<◌, ℕ, ◌+◌, max, true, false, List, [], ◌∷◌, Option, Some, None, refl, sym, ap, subst, ◌∙◌}
+use Rattle.std.proofs.Common.{◌≡◌, ◌<◌, ℕ, max, false, List, [], ◌∷◌, Option, None, refl, sym, ap, subst, ◌∙◌}
 use Rattle.charge_world.specs.declared.entry.Entry.{Entry}
 use Rattle.charge_world.specs.declared.entry.Entry.TheVariants as entry
 use Rattle.charge_world.specs.declared.heard.Heard.{Heard}
@@ -11,6 +11,7 @@ use Rattle.endpoint.specs.Knowing.{Known, known_first, known_behind, known_lost}
 use Rattle.endpoint.proofs.Knowing.{known_none, known_heard, known_nothing}
 use Rattle.endpoint.specs.Telling.{Carries}
 use Rattle.endpoint.proofs.Carry.{carries_none}
+use Rattle.end_turns.specs.Turns as turns
 use Rattle.car_spec.specs.Acting.{state}
 use Rattle.car_spec.specs.Codecs.{Codecs}
 use Rattle.car_spec.specs.Hearing.{hearing}
@@ -24,7 +25,6 @@ use Rattle.car_acts.specs.Driving.{InRun}
 use Rattle.car_acts.specs.Sound.{IsSound}
 use Rattle.car_acts.proofs.Runs.{unreported, still_unreported}
 use Rattle.car_acts.proofs.Sound.{heard_sound}
-use Rattle.car_turns.specs.Turns as turns
 
 -- a next hearing may come
 hearable : (c : Codecs) (plan : CarPlan) (k : Known) (s : State) (told : Option Report) (past : List Entry) → k.last ≡ false → k.heard < plan.turns → s.over ≡ false → IsQuiet plan s → (r : InRun c plan k s told past)
@@ -36,10 +36,10 @@ hearable c plan k s told past goes_on left lives quiet r = record {
   turns_left = subst (λ (n : ℕ). n < plan.turns) (sym r.known_is.heard_is) left;
 }
 
-pub heard_run : (c : Codecs) (plan : CarPlan) (k : Known) (s : State) (told : Option Report) (past : List Entry) (h : Heard) (bytes : List ℕ) (wait : ℕ) → k.last ≡ false → k.heard < plan.turns → s.over ≡ false → IsQuiet plan s
-    → IsOfPosts 1 h.what → IsHearing h bytes → wait ≡ until plan s → InRun c plan k s told past
-    → InRun c plan (known_behind k h bytes wait) (hearing (max k.clock h.at) (event_at 1 h.what bytes) s) told (entry.Heard h bytes ∷ past)
-heard_run c plan k s told past h bytes wait goes_on left lives quiet of is waits r =
+heard_run : (c : Codecs) (plan : CarPlan) (k : Known) (s : State) (told : Option Report) (past : List Entry) (h : Heard) (bytes : List ℕ) → k.last ≡ false → k.heard < plan.turns → s.over ≡ false → IsQuiet plan s
+    → IsOfPosts 1 h.what → IsHearing h bytes → InRun c plan k s told past
+    → InRun c plan (known_behind k h bytes (until plan s)) (hearing (max k.clock h.at) (event_at 1 h.what bytes) s) told (entry.Heard h bytes ∷ past)
+heard_run c plan k s told past h bytes goes_on left lives quiet of is r =
     let at = max (moment past) h.at in
     let event = event_at 1 h.what bytes in
     let none = unreported s.over told r.steps past lives r.report_is in
@@ -61,37 +61,38 @@ heard_run c plan k s told past h bytes wait goes_on left lives quiet of is waits
       );
       state_is = ap (λ (m : ℕ). hearing (max m h.at) event s) (sym r.known_is.clock_is) ∙ ap (hearing at event) r.state_is;
       report_is = still_unreported s.over told (Hears at event ∷ r.steps) (entry.Heard h bytes ∷ past) lives none;
-      known_is = known_heard k h bytes wait past r.known_is;
-      untils_are = ap (λ (t : State). until plan t ∷ untils plan r.steps) (sym r.state_is) ∙ ap (λ (n : ℕ). n ∷ untils plan r.steps) (sym waits) ∙ ap (λ (us : List ℕ). wait ∷ us) r.untils_are;
+      known_is = known_heard k h bytes (until plan s) past r.known_is;
+      untils_are = ap (λ (t : State). until plan t ∷ untils plan r.steps) (sym r.state_is) ∙ ap (λ (us : List ℕ). until plan s ∷ us) r.untils_are;
     }
 
 -- behind a lost hearing
-pub lost_run : (c : Codecs) (plan : CarPlan) (k : Known) (s : State) (told : Option Report) (past : List Entry) (wait : ℕ) → k.last ≡ false → k.heard < plan.turns → s.over ≡ false → IsQuiet plan s → wait ≡ until plan s → InRun c plan k s told past
-    → InRun c plan (known_lost k wait) s told (entry.Lost ∷ past)
-lost_run c plan k s told past wait goes_on left lives quiet waits r = record {
+pub lost_run : (c : Codecs) (plan : CarPlan) (k : Known) (s : State) (told : Option Report) (past : List Entry) → k.last ≡ false → k.heard < plan.turns → s.over ≡ false → IsQuiet plan s → InRun c plan k s told past
+    → InRun c plan (known_lost k (until plan s)) s told (entry.Lost ∷ past)
+lost_run c plan k s told past goes_on left lives quiet r = record {
   steps = Loses ∷ r.steps;
   run = (past, r.run, hearable c plan k s told past goes_on left lives quiet r, refl);
   state_is = r.state_is;
   report_is = still_unreported s.over told (Loses ∷ r.steps) (entry.Lost ∷ past) lives (unreported s.over told r.steps past lives r.report_is);
-  known_is = known_nothing k wait past r.known_is;
-  untils_are = ap (λ (t : State). until plan t ∷ untils plan r.steps) (sym r.state_is) ∙ ap (λ (n : ℕ). n ∷ untils plan r.steps) (sym waits) ∙ ap (λ (us : List ℕ). wait ∷ us) r.untils_are;
+  known_is = known_nothing k (until plan s) past r.known_is;
+  untils_are = ap (λ (t : State). until plan t ∷ untils plan r.steps) (sym r.state_is) ∙ ap (λ (us : List ℕ). until plan s ∷ us) r.untils_are;
 }
 
 -- what was heard next, once the car knows it
-pub hears_run : (a : Option (List Entry)) (c : Codecs) (plan : CarPlan) (k : Known) (s new : State) (told later : Option Report) (h : Heard) (bytes : List ℕ) (now wait : ℕ) → k.last ≡ false → k.heard < plan.turns → s.over ≡ false → IsQuiet plan s
-    → IsOfPosts 1 h.what → IsHearing h bytes → wait ≡ until plan s → max k.clock h.at ≡ now → new ≡ hearing now (event_at 1 h.what bytes) s → later ≡ told
-    → Carries a a (turns.Hears c plan k h bytes s told) (InRun c plan (known_behind k h bytes wait) new later)
-hears_run a c plan k s new told later h bytes now wait goes_on left lives quiet of is waits clock new_is later_is =
-    carries_none a (turns.Hears c plan k h bytes s told) (InRun c plan (known_behind k h bytes wait) new later)
+pub hears_run : (a : Option (List Entry)) (c : Codecs) (plan : CarPlan) (k : Known) (s new : State) (told later : Option Report) (h : Heard) (bytes : List ℕ) (now : ℕ) → k.last ≡ false → k.heard < plan.turns → s.over ≡ false → IsQuiet plan s
+    → IsOfPosts 1 h.what → IsHearing h bytes → max k.clock h.at ≡ now → new ≡ hearing now (event_at 1 h.what bytes) s → later ≡ told
+    → Carries a a (turns.Hears (InRun c plan k s told) h bytes) (InRun c plan (known_behind k h bytes (until plan s)) new later)
+hears_run a c plan k s new told later h bytes now goes_on left lives quiet of is clock new_is later_is =
+    let known = known_behind k h bytes (until plan s) in
+    let event = event_at 1 h.what bytes in
+    carries_none a (turns.Hears (InRun c plan k s told) h bytes) (InRun c plan known new later)
     (λ past n.
-    let after = heard_run c plan k s told n.earlier h bytes wait goes_on left lives quiet of is waits n.run in
-    let there = subst (λ (p : List Entry). InRun c plan (known_behind k h bytes wait) (hearing (max k.clock h.at) (event_at 1 h.what bytes) s) told p) (sym n.past_is) after in
-    let known_then : InRun c plan (known_behind k h bytes wait) new told past = subst (λ (t : State). InRun c plan (known_behind k h bytes wait) t told past) (ap (λ (m : ℕ). hearing m (event_at 1 h.what bytes) s) clock ∙ sym new_is) there in
-    subst (λ (o : Option Report). InRun c plan (known_behind k h bytes wait) new o past) (sym later_is) known_then)
+    let after = heard_run c plan k s told n.earlier h bytes goes_on left lives quiet of is n.run in
+    let there = subst (λ (p : List Entry). InRun c plan known (hearing (max k.clock h.at) event s) told p) (sym n.past_is) after in
+    let known_then : InRun c plan known new told past = subst (λ (t : State). InRun c plan known t told past) (ap (λ (m : ℕ). hearing m event s) clock ∙ sym new_is) there in
+    subst (λ (o : Option Report). InRun c plan known new o past) (sym later_is) known_then)
 
 -- before anything was heard
-pub begins : (c : Codecs) (plan : CarPlan) (s : State) (told : Option Report) (past : List Entry) → s ≡ fresh → told ≡ None → past ≡ []
-    → InRun c plan known_first s told past
+pub begins : (c : Codecs) (plan : CarPlan) (s : State) (told : Option Report) (past : List Entry) → s ≡ fresh → told ≡ None → past ≡ [] → InRun c plan known_first s told past
 begins c plan s told past fresh_is none e =
     let k = known_first in
     let first : InRun c plan k fresh None [] = record {

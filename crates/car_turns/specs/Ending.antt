@@ -1,18 +1,20 @@
 -- Own: how driving a car ends, and what its past and its trace are then.
-use Rattle.std.specs.Prelude.{◌≡◌, ◌<◌, ◌≤◌, ◌↔◌, ℕ, true, false, not, ◌&&◌, List, ◌++◌, Some, ◌⊎◌}
+use Rattle.std.specs.Prelude.{◌≡◌, ◌<◌, ℕ, Bool, true, false, not, ◌&&◌, List, ◌++◌, Some, MatchBool}
 use Rattle.charge_world.specs.declared.entry.Entry.{Entry}
 use Rattle.charge_world.specs.declared.entry.Entry.TheVariants as entry
 use Rattle.charge_world.specs.declared.heard.Heard.{Heard}
 use Rattle.session_words.specs.declared.plan.CarPlan.{CarPlan}
-use Rattle.trace_text.specs.Pasts.{trace_text}
 use Rattle.station_spec.specs.Blocks.{is_last, is_over, hearings}
 use Rattle.endpoint.specs.Knowing.{newest}
-use Rattle.endpoint.specs.Telling.{IsCutFirst, IsCutText}
+use Rattle.end_turns.specs.declared.ending.Ended.{Ended as Stopped}
+use Rattle.end_turns.specs.declared.ending.Ended.TheVariants as stopped
+use Rattle.end_turns.specs.Ending as turns
+use Rattle.end_turns.specs.Ending.{is_whole}
 use Rattle.car_spec.specs.Acting.{state}
 use Rattle.car_spec.specs.Codecs.{Codecs}
 use Rattle.car_spec.specs.Next.{IsQuiet}
 use Rattle.car_spec.specs.Report.{Report, cause, report}
-use Rattle.car_spec.specs.Runs.{IsRun, Closes, IsEnded, IsCarRun, IsCutRun}
+use Rattle.car_spec.specs.Runs.{IsRun, Closes, IsEnded}
 use Rattle.car_spec.specs.States.{State}
 use Rattle.car_spec.specs.Steps.{Step}
 use Rattle.car_spec.specs.Until.{untils}
@@ -27,29 +29,33 @@ EndedAs turns ended.TraceFault past = Unit {0}
 EndedAs turns ended.Turns past = (hearings past ≡ turns) × (is_last past ≡ false) × (cause past ≡ 0)
 EndedAs turns ended.Finished past = (is_last past ≡ false) × (0 < cause past)
 
--- the past is a whole run of the car, but where a line of the trace couldn't be written
-abbrev pub RanAs : Codecs → CarPlan → Ended → List Entry → Type 0
-RanAs c plan ended.Over past = IsCarRun c plan past
-RanAs c plan ended.Lost past = IsCarRun c plan past
-RanAs c plan ended.TraceFault past = IsCutRun c plan past
-RanAs c plan ended.Turns past = IsCarRun c plan past
-RanAs c plan ended.Finished past = IsCarRun c plan past
+-- how the turns stopped: those of a car that ended go on no more
+abbrev pub stopped_by : Ended → Stopped
+stopped_by ended.Over = stopped.Over
+stopped_by ended.Lost = stopped.Lost
+stopped_by ended.TraceFault = stopped.TraceFault
+stopped_by ended.Turns = stopped.Turns
+stopped_by ended.Finished = stopped.Turns
 
--- the order that closes a run: Open, where the contactor is live. A car that ended gave it already, unless its run is cut
+-- and how driving ended by it, where the car had ended or hadn't
+abbrev pub ended_by : Stopped → Bool → Ended
+ended_by stopped.Over over = ended.Over
+ended_by stopped.Lost over = ended.Lost
+ended_by stopped.TraceFault over = ended.TraceFault
+ended_by stopped.Turns true = ended.Finished
+ended_by stopped.Turns false = ended.Turns
+
+-- whether the order that closes a run is due: Open, where the contactor is live. A car that ended gave it already, unless its run is cut
+abbrev pub opens_if : Bool → State → Bool
+opens_if true s = s.live && not s.over
+opens_if false s = s.live
+
 abbrev pub ClosesAs : Ended → State → List Entry → List Entry → Type 0
-ClosesAs ended.Over s blocks past = Closes (s.live && not s.over) blocks past
-ClosesAs ended.Lost s blocks past = Closes (s.live && not s.over) blocks past
-ClosesAs ended.TraceFault s blocks past = Closes s.live blocks past
-ClosesAs ended.Turns s blocks past = Closes (s.live && not s.over) blocks past
-ClosesAs ended.Finished s blocks past = Closes (s.live && not s.over) blocks past
+ClosesAs how s = Closes (opens_if (is_whole (stopped_by how)) s)
 
 -- the blocks are whole, but where a line couldn't be written
 abbrev pub RestsAs : Ended → CarPlan → List Entry → State → Type 0
-RestsAs ended.Over plan blocks s = IsQuiet plan s × IsEnded plan blocks s
-RestsAs ended.Lost plan blocks s = IsQuiet plan s × IsEnded plan blocks s
-RestsAs ended.TraceFault plan blocks s = Unit {0}
-RestsAs ended.Turns plan blocks s = IsQuiet plan s × IsEnded plan blocks s
-RestsAs ended.Finished plan blocks s = IsQuiet plan s × IsEnded plan blocks s
+RestsAs how plan blocks s = MatchBool (is_whole (stopped_by how)) (IsQuiet plan s × IsEnded plan blocks s) (Unit {0})
 
 -- The past of a car that was driven: the blocks of a run by these steps, and the order that closes it. Each hearing waited until the moment
 -- that is due then, the newest first on those that the wire told before, and this is reported
@@ -64,13 +70,8 @@ pub record IsDriven (c : Codecs) (plan : CarPlan) (how : Ended) (before after : 
 
 -- the trace is the text of the past, but where a line of it couldn't be written
 abbrev pub TracedAs : Ended → List Entry → List ℕ → Type 0
-TracedAs ended.Over past text = text ≡ trace_text past
-TracedAs ended.Lost past text = text ≡ trace_text past
-TracedAs ended.TraceFault past text = IsCutFirst past text ⊎ IsCutText past text
-TracedAs ended.Turns past text = text ≡ trace_text past
-TracedAs ended.Finished past text = text ≡ trace_text past
+TracedAs how = turns.TracedAs (stopped_by how)
 
 -- the trace's count of faults rose exactly where driving ended by it
-pub record AreFaults (before after : ℕ) (how : Ended) : Type 0 where
-  pub later : before ≤ after
-  pub risen : (how ≡ ended.TraceFault) ↔ (before < after)
+abbrev pub AreFaults : ℕ → ℕ → Ended → Type 0
+AreFaults before after how = turns.AreFaults before after (stopped_by how)

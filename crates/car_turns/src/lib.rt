@@ -1,14 +1,13 @@
-//! The turns of a car: it hears, and does and reads all that follows from it; at the end a live contactor is ordered open. Each line of the
-//! trace is written right behind what it tells.
+//! A car in its turns: it hears, and does and reads all that follows from it; at the end a live contactor is ordered open. Each line of the trace is
+//! written right behind what it tells.
 //!
-//! Proved: `drive`: its turns, and at the end Open where the contactor is live: the past is a run of the car (`IsDriven`, `RanAs`), each
-//! `until` the definition's, the trace its text (`TracedAs`), the report its count.
+//! Proved: `CarSite`, a car with all its memory, is an end of a charge (`End` of `end_turns`): what it does in a hearing carries a run of the car to
+//! a run, each hearing waits until the definition's `until`, and the order by which it closes is the definition's.
 #![tactic(auto)]
 
-mod closing;
 mod ending;
-mod hearing;
+mod site;
 mod turning;
 
 pub use ending::Ended;
-pub use turning::drive;
+pub use site::CarSite;

@@ -77,11 +77,13 @@ impl<C: Codec> Site<C> {
         ensures faults { W.faults wire.old ≤ W.faults wire.new }
     {
         runs_of_posts::<C>();
+        self.so_far.count(heard.at);
         hear(
             &mut self.desk,
             self.places.as_mut_slice(),
             self.limit,
-            &mut self.so_far,
+            self.so_far.moment,
+            self.so_far.hearing,
             heard,
             room,
             wire,

@@ -10,9 +10,10 @@
 mod hearing;
 mod serving;
 mod site;
+mod turning;
 
+pub use end_turns::Ended;
 pub use serving::serve;
 pub use site::Site;
 pub use site_posts::{CauseSet, PostReport};
-pub use site_turns::Ended;
 pub use trace_lines::{NoMemory, TraceFailed};

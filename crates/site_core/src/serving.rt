@@ -8,8 +8,10 @@ ghost use Rattle.site_turns.specs.Ending.{AreMade, AreMadeOf, EndedAs, RanAs, Tr
 
 use crate::site::Site;
 use charge_world::{Sink, Wire};
+use end_turns::{Ended, run};
+use endpoint::SoFar;
 use site_codec::Codec;
-use site_turns::{Ended, serve_posts};
+use station_laws::runs_of_posts;
 
 /// Serves a site that was just made, on a wire that was started with its posts, until the wire says Over, a hearing fails, a line of the
 /// trace can't be written, or the last turn is made. At the end each post whose contactor is live is ordered open.
@@ -34,13 +36,9 @@ pub fn serve<C: Codec, W: Wire, J: Sink>(wire: &mut W, trace: &mut J, site: &mut
     ensures lost { result ≡ Ended.Lost → W.faults wire.old < W.faults wire.new }
     ensures trace_fault { AreFaults (J.faults trace.old) (J.faults trace.new) result }
 {
-    serve_posts(
-        &mut site.desk,
-        site.places.as_mut_slice(),
-        site.limit,
-        site.turns,
-        &mut site.so_far,
-        wire,
-        trace,
-    )
+    runs_of_posts::<C>();
+    let mut so_far = SoFar::nothing();
+    let ended = run(site, &mut so_far, wire, trace);
+    site.so_far = so_far;
+    ended
 }

@@ -3,7 +3,7 @@ use Rattle.std.specs.Prelude.{◌≡◌, ℕ, List, [], Option, IfSome, IsSomeAn
 use Rattle.charge_world.specs.declared.entry.Entry.{Entry}
 use Rattle.session_words.specs.declared.plan.SitePlan.{SitePlan}
 use Rattle.post_spec.specs.Codecs.{Codecs}
-use Rattle.site_turns.specs.declared.ending.Ended.{Ended}
+use Rattle.site_core.specs.Ended.{Ended}
 use Rattle.site_turns.specs.Ending.{EndedAs, RanAs, TracedAs}
 use Rattle.replay_wire.specs.Replays.{IsReplayOf}
 use Rattle.replay_wire.specs.Standing.{counted}

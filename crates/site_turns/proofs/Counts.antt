@@ -1,7 +1,7 @@
 -- What the posts counted, over the closing orders too.
 use Rattle.std.proofs.Common.{◌≡◌, ◌<◌, ℕ, zero, suc, ◌+◌, Bool, true, false, ◌==◌, if◌then◌else◌, List, [], ◌∷◌, ◌++◌, length, map, refl, sym, ap, subst, ◌∙◌, arith}
 use Rattle.std.specs.List.{AllByRecursion}
-use Rattle.std.proofs.lemmas.List.{append-nil, length-map}
+use Rattle.std.proofs.lemmas.List.{length-map}
 use Rattle.charge_world.specs.declared.entry.Entry.{Entry}
 use Rattle.charge_world.specs.declared.ports.Order.TheVariants as order
 use Rattle.session_words.specs.declared.plan.SitePlan.{SitePlan}
@@ -9,7 +9,6 @@ use Rattle.post_spec.specs.Codecs.{Codecs}
 use Rattle.post_spec.specs.Steps.{Seen, Did, Give, seen, seen_of}
 use Rattle.station_spec.specs.Report.{sessions, closed, causes}
 use Rattle.station_spec.specs.Sharing.{Post}
-use Rattle.station_spec.specs.Runs.{unheard}
 use Rattle.station_laws.specs.PostRuns.{ArePostsOf, RunsArePostRuns}
 use Rattle.site_posts.specs.declared.place.Place.{Place}
 use Rattle.site_posts.specs.Filling.{at}
@@ -17,10 +16,7 @@ use Rattle.site_posts.specs.Places.{capped, place_of}
 use Rattle.endpoint.specs.Knowing.{Known}
 use Rattle.site_acts.specs.Serving.{InBlock}
 use Rattle.endpoint.specs.Telling.{HasClosing, IsClosing}
-use Rattle.site_turns.specs.declared.ending.Ended.{Ended}
-use Rattle.site_turns.specs.declared.ending.Ended.TheVariants as ended
 use Rattle.site_turns.specs.Ending.{Counts, AreCounts}
-use Rattle.site_turns.specs.Turns.{Stops}
 
 -- an order to open counts for nothing
 order_sessions : (b taken : Bool) (ss : List Seen) → sessions (if b then Did (Give order.Open) taken ∷ ss else ss) ≡ sessions ss
@@ -60,17 +56,8 @@ counts_from c blocks past k (p ∷ posts) are h zero less = subst (λ (n : ℕ).
 counts_from c blocks past k (p ∷ posts) are h (suc i) less =
     subst (λ (n : ℕ). Counts n (at (map place_of posts) i).report past) (let e : i + suc k ≡ suc i + k = omega arith in e) (counts_from c blocks past (suc k) posts are.1 h i (omega (arith, less)))
 
-pub counts_stopped : (c : Codecs) (plan : SitePlan) (how : Ended) (told earlier : List ℕ) (places : List Place) (blocks past : List Entry) → RunsArePostRuns c → Stops c plan how told earlier places blocks → HasClosing blocks past → AreCounts places past
-counts_stopped c plan how told earlier places blocks past law s h = λ i less.
-    subst (λ (ps : List Place). Counts (i + 1) (at ps i).report past) (sym s.block.are)
-    (counts_from c blocks past 1 s.block.posts (law plan blocks s.block.posts s.block.run) h i (subst (λ (n : ℕ). i < n) (ap length s.block.are ∙ length-map s.block.posts place_of) less))
-
-pub counts_first : (c : Codecs) (plan : SitePlan) (places : List Place) (past : List Entry) → RunsArePostRuns c → places ≡ map place_of (map unheard plan.post.items) → past ≡ [] → AreCounts places past
-counts_first c plan places past law are e = λ i less.
-    subst (λ (ps : List Place). Counts (i + 1) (at ps i).report past) (sym are)
-    (counts_from c [] past 1 (map unheard plan.post.items) (law plan [] (map unheard plan.post.items) refl) (record { later = []; past_is = e; closing = tt }) i
-    (subst (λ (n : ℕ). i < n) (ap length are ∙ length-map (map unheard plan.post.items) place_of) less))
-
-pub counts_so_far : (c : Codecs) (plan : SitePlan) (k : Known) (places : List Place) (past : List Entry) → RunsArePostRuns c → InBlock c plan k places past → AreCounts places past
-counts_so_far c plan k places past law block =
-    counts_stopped c plan ended.TraceFault k.untils [] places past past law (record { known = k; block = block; told_are = sym (append-nil k.untils); ended = tt }) (record { later = []; past_is = refl; closing = tt })
+-- and over a whole run, or one so far
+pub counts_closed : (c : Codecs) (plan : SitePlan) (k : Known) (places : List Place) (blocks past : List Entry) → RunsArePostRuns c → InBlock c plan k places blocks → HasClosing blocks past → AreCounts places past
+counts_closed c plan k places blocks past law b h = λ i less.
+    subst (λ (ps : List Place). Counts (i + 1) (at ps i).report past) (sym b.are)
+    (counts_from c blocks past 1 b.posts (law plan blocks b.posts b.run) h i (subst (λ (n : ℕ). i < n) (ap length b.are ∙ length-map b.posts place_of) less))

@@ -28,7 +28,7 @@ use Rattle.endpoint.specs.Telling.{Carries}
 use Rattle.endpoint.proofs.Carry.{carries_none}
 use Rattle.site_acts.proofs.Frame.{heard_one}
 use Rattle.endpoint.specs.Knowing.{known_behind}
-use Rattle.site_turns.specs.Hearing.{Hears}
+use Rattle.end_turns.specs.Turns.{Hears}
 
 -- quiet posts read all that came
 pub read_out : (places : List Place) → ReadsAll → All RestsAt places → All (λ p. IsReadOut p.post.session) places
@@ -70,9 +70,11 @@ made_rest [] k d less = absurd (let f : k < 0 = less in omega arith)
 made_rest (p ∷ plans) zero d less = record { none = refl; no_word = refl }
 made_rest (p ∷ plans) (suc k) d less = made_rest plans k d (omega (arith, less))
 
-pub heard_by : (a : Option (List Entry)) (c : Codecs) (plan : SitePlan) (k : Known) (places new : List Place) (h : Heard) (bytes : List ℕ) (now wait : ℕ) → k.last ≡ false → k.heard < plan.turns → All RestsAt places → IsOfPosts (length places) h.what → IsHearing h bytes
-    → length new ≡ length places → max k.clock h.at ≡ now → HeardAll now h.what bytes places new → wait ≡ fold min never (map due_at places) → Carries a a (Hears c plan k h bytes places) (InBlock c plan (known_behind k h bytes wait) new)
-heard_by a c plan k places new h bytes now wait goes_on left rest of is same clock all waits =
-    carries_none a (Hears c plan k h bytes places) (InBlock c plan (known_behind k h bytes wait) new) (λ past b.
-    subst (InBlock c plan (known_behind k h bytes wait) new) (sym b.past_is)
-    (heard_one c plan k places new b.earlier h bytes wait goes_on left rest of is same (subst (λ (m : ℕ). HeardAll m h.what bytes places new) (sym clock) all) waits b.block))
+pub heard_by : (a : Option (List Entry)) (c : Codecs) (plan : SitePlan) (k : Known) (places new : List Place) (h : Heard) (bytes : List ℕ) (now : ℕ) → k.last ≡ false → k.heard < plan.turns → All RestsAt places → IsOfPosts (length places) h.what → IsHearing h bytes
+    → length new ≡ length places → max k.clock h.at ≡ now → HeardAll now h.what bytes places new
+    → Carries a a (Hears (InBlock c plan k places) h bytes) (InBlock c plan (known_behind k h bytes (fold min never (map due_at places))) new)
+heard_by a c plan k places new h bytes now goes_on left rest of is same clock all =
+    let known = known_behind k h bytes (fold min never (map due_at places)) in
+    carries_none a (Hears (InBlock c plan k places) h bytes) (InBlock c plan known new) (λ past b.
+    subst (InBlock c plan known new) (sym b.past_is)
+    (heard_one c plan k places new b.earlier h bytes (fold min never (map due_at places)) goes_on left rest of is same (subst (λ (m : ℕ). HeardAll m h.what bytes places new) (sym clock) all) refl b.run))

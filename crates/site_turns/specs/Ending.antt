@@ -1,11 +1,10 @@
 -- Own: how the serving of a site ends, and what its past and its trace are then.
-use Rattle.std.specs.Prelude.{◌≡◌, ◌<◌, ◌≤◌, ◌↔◌, ℕ, ◌+◌, true, false, List, All, length, map, Some, ◌⊎◌}
+use Rattle.std.specs.Prelude.{◌≡◌, ◌<◌, ℕ, ◌+◌, true, false, List, All, length, map, Some}
 use Rattle.charge_world.specs.declared.entry.Entry.{Entry}
 use Rattle.charge_world.specs.declared.entry.Entry.TheVariants as entry
 use Rattle.charge_world.specs.declared.heard.Heard.{Heard}
 use Rattle.session_words.specs.declared.plan.SitePlan.{SitePlan}
 use Rattle.session_words.specs.Plans.{IsSitePlan}
-use Rattle.trace_text.specs.Pasts.{trace_text}
 use Rattle.post_spec.specs.Codecs.{Codecs}
 use Rattle.post_spec.specs.Steps.{seen}
 use Rattle.station_spec.specs.Blocks.{is_last, is_over, hearings}
@@ -18,9 +17,10 @@ use Rattle.site_posts.specs.declared.report.PostReport.{PostReport}
 use Rattle.site_posts.specs.Filling.{at}
 use Rattle.site_posts.specs.Places.{capped, place_of}
 use Rattle.endpoint.specs.Knowing.{newest}
-use Rattle.endpoint.specs.Telling.{HasClosing, IsCutFirst, IsCutText}
-use Rattle.site_turns.specs.declared.ending.Ended.{Ended}
-use Rattle.site_turns.specs.declared.ending.Ended.TheVariants as ended
+use Rattle.endpoint.specs.Telling.{HasClosing}
+use Rattle.end_turns.specs.declared.ending.Ended.{Ended}
+use Rattle.end_turns.specs.declared.ending.Ended.TheVariants as ended
+pub use Rattle.end_turns.specs.Ending.{TracedAs, AreFaults}
 
 -- the posts of a site that was made by a plan within its rules, and heard nothing yet
 pub record AreMadeOf (plan : SitePlan) (places : List Place) (limit turns : ℕ) : Type 0 where
@@ -47,13 +47,6 @@ RanAs c plan ended.Lost past = IsSiteRun c plan past
 RanAs c plan ended.TraceFault past = IsCutRun c plan past
 RanAs c plan ended.Turns past = IsSiteRun c plan past
 
--- the trace is the text of the past, but where a line of it couldn't be written
-abbrev pub TracedAs : Ended → List Entry → List ℕ → Type 0
-TracedAs ended.Over past text = text ≡ trace_text past
-TracedAs ended.Lost past text = text ≡ trace_text past
-TracedAs ended.TraceFault past text = IsCutFirst past text ⊎ IsCutText past text
-TracedAs ended.Turns past text = text ≡ trace_text past
-
 -- until when each hearing waited, the newest first. Behind the last one are the orders by which serving ends
 pub record AwaitedAs (c : Codecs) (plan : SitePlan) (untils : List ℕ) (past : List Entry) : Type 0 where
   pub blocks : List Entry
@@ -69,8 +62,3 @@ pub record Counts (k : ℕ) (report : PostReport) (past : List Entry) : Type 0 w
 -- so of each post
 abbrev pub AreCounts : List Place → List Entry → Type 0
 AreCounts places past = (i : ℕ) → i < length places → Counts (i + 1) (at places i).report past
-
--- the trace's count of faults rose exactly where serving ended by it
-pub record AreFaults (before after : ℕ) (how : Ended) : Type 0 where
-  pub later : before ≤ after
-  pub risen : (how ≡ ended.TraceFault) ↔ (before < after)

@@ -1,5 +1,2 @@
-pub mod Lasts
 pub mod Ending
-pub mod Hearing
 pub mod SoFar
-pub mod Turns

@@ -72,3 +72,16 @@ pub fn close_all<W: Wire, J: Sink>(
     }
     Ok(())
 }
+
+/// Orders open each post whose contactor is live, in order of number. No line is written.
+pub fn cut_all<W: Wire>(places: &[Place], wire: &mut W)
+    requires few { length places.now ≤ 8 }
+    ensures closed { (posts : List Post) (blocks : List Entry) → places.now ≡ map place_of posts → Carries (W.past wire.old) (W.past wire.new) (λ past. past ≡ blocks) (Closes 1 posts blocks) }
+    ensures orders { (blocks : List Entry) → Carries (W.past wire.old) (W.past wire.new) (λ past. past ≡ blocks) (HasClosing blocks) }
+    ensures untils { IsSome (W.past wire.new) → W.untils wire.new ≡ W.untils wire.old }
+    ensures started { W.started wire.new ≡ W.started wire.old }
+    ensures posts { W.posts wire.new ≡ W.posts wire.old }
+    ensures faults { W.faults wire.old ≤ W.faults wire.new }
+{
+    close_unwritten(places, 0, wire);
+}

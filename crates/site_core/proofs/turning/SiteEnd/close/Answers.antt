@@ -1,0 +1,5 @@
+use Rattle.site_core.proofs.Served.{all_closed}
+use Rattle.site_core.proofs.turning.SiteEnd.close.Goals as goal
+
+pub returns-clause-closed : goal.returns-clause-closed
+returns-clause-closed g c = all_closed _ _ c.args.self.now.places.items c.deref.result.now c.deref.ensures.value c.close_all.ensures.closed c.close_all.ensures.orders
