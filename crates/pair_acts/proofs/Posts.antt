@@ -42,7 +42,7 @@ use Rattle.pair_deeds.specs.Posts.{IsStill, DoesFirst, ReadsWord}
 use Rattle.pair_deeds.proofs.Posts.{posts_do_what_is_first, posts_read_words}
 use Rattle.pair_phases.specs.Ends.{Listens, IsToSend, GoesOnBy}
 use Rattle.pair_phases.specs.Phases.{Comes, Begins, IsToOffer, Offered, Offers, Responded, exchange, Talks, IsToAsk, Rests, Asks, IsToReply, Closes, Replies, Ends, IsToStop, Stopped, NoneYet, Read, TalksBy}
-use Rattle.pair_phases.specs.Acts.{IsPair}
+use Rattle.pair_phases.specs.Acts.{IsPair, IfRead}
 use Rattle.pair_phases.proofs.Messages.{Front, OnItsWay, Whole, front, empty_waits}
 use Rattle.pair_phases.proofs.Posts.{quiet_acts, come_quiet, gone_quiet, listens_quiet, waits_quiet, stays_busy}
 use Rattle.pair_phases.proofs.Answers.{TakesWords, meets_takes}
@@ -119,13 +119,15 @@ acts_so None None (Some own) c post_plan plan b s a todo act shown same last is 
 acts_so None None None c post_plan plan b s a todo act shown same last is f d = absurd (some_none todo (sym f ∙ ap first is))
 
 asks_whole : (c : post.Codecs) (cs : car.Codecs) (post_plan : PostPlan) (plan : CarPlan) (limit : ℕ) (b : Both) (s : State) (reading : Option Reading) (act : Act) (request unread : List ℕ)
-    → IsPair c cs post_plan plan → Meets post_plan b → ((later : Facts) (shown : ℕ) → Suits b.car.phase (exchange s.facts later shown)) → cs.Encodes b.car.dialect (request_of plan b.car) request
+    → IsPair c cs post_plan plan → Meets post_plan b → IfRead reading ((later : Facts) (shown : ℕ) → Suits b.car.phase (exchange s.facts later shown)) → cs.Encodes b.car.dialect (request_of plan b.car) request
     → (l : Listens post_plan s b.post unread) → IsPayload request → unread ≡ frame request → Acts c post_plan (Shows limit [] []) s reading act true → IsOfExchange post_plan plan b s act
-asks_whole c cs post_plan plan limit b s reading act request unread p meets suits encodes l short u i =
+asks_whole c cs post_plan plan limit b s reading act request unread p meets suited encodes l short u i =
     let still : IsStill post_plan s l.session = l.still in
     let takes : TakesWords b.post.row = meets_takes post_plan b meets in
     let r : ReadsWord c post_plan limit s l.session request reading act true =
     posts_read_words c post_plan limit s l.session request reading act true l.still (ap (λ (x : Stage). is_waiting x.row) l.stage_is ∙ takes.waits) (l.unread_is ∙ u) short i in
+    let suits : (later : Facts) (shown : ℕ) → Suits b.car.phase (exchange s.facts later shown) =
+    subst (λ (o : Option Reading). IfRead o ((later : Facts) (shown : ℕ) → Suits b.car.phase (exchange s.facts later shown))) r.reading_is suited in
     let dialect_is : speaks l.session.stage ≡ Some b.car.dialect =
     ap speaks l.stage_is ∙ takes.speaks b.post.dialect ∙ ap (λ (d : Dialect). Some d) meets.dialect in
     let judged_is : r.read.judged ≡ post.Asked (asked plan b.car) =
@@ -148,7 +150,7 @@ asks_whole c cs post_plan plan limit b s reading act request unread p meets suit
     (ap (λ (x : State). first x.agenda) (sym is) ∙ r.acts) r.done
 
 asks_front : (c : post.Codecs) (cs : car.Codecs) (post_plan : PostPlan) (plan : CarPlan) (limit : ℕ) (b : Both) (s : State) (reading : Option Reading) (act : Act) (request unread way : List ℕ)
-    → IsPair c cs post_plan plan → Meets post_plan b → ((later : Facts) (shown : ℕ) → Suits b.car.phase (exchange s.facts later shown)) → cs.Encodes b.car.dialect (request_of plan b.car) request
+    → IsPair c cs post_plan plan → Meets post_plan b → IfRead reading ((later : Facts) (shown : ℕ) → Suits b.car.phase (exchange s.facts later shown)) → cs.Encodes b.car.dialect (request_of plan b.car) request
     → Listens post_plan s b.post unread → Comes request unread way → Front request unread way → Acts c post_plan (Shows limit [] []) s reading act true → IsOfExchange post_plan plan b s act
 asks_front c cs post_plan plan limit b s reading act request unread way p meets suits encodes l k (OnItsWay w) i =
     absurd (quiet_acts c post_plan limit s reading act (listens_quiet post_plan s b.post unread l w) i)
@@ -174,7 +176,7 @@ leaves_act (Some own) c post_plan plan limit b s reading act stage e (inl t) i =
     ends_so post_plan plan b s own act e done.0
 
 talks_act : (c : post.Codecs) (cs : car.Codecs) (post_plan : PostPlan) (plan : CarPlan) (limit : ℕ) (b : Both) (s : State) (k : car_states.State) (to_station to_car : List ℕ) (reading : Option Reading) (act : Act)
-    → IsPair c cs post_plan plan → Meets post_plan b → ((later : Facts) (shown : ℕ) → Suits b.car.phase (exchange s.facts later shown)) → Talks c cs post_plan plan b s k to_station to_car
+    → IsPair c cs post_plan plan → Meets post_plan b → IfRead reading ((later : Facts) (shown : ℕ) → Suits b.car.phase (exchange s.facts later shown)) → Talks c cs post_plan plan b s k to_station to_car
     → Acts c post_plan (Shows limit [] []) s reading act true → IsOfExchange post_plan plan b s act
 talks_act c cs post_plan plan limit b s k to_station to_car reading act p m suits (IsToAsk order l say none) i = absurd (quiet_acts c post_plan limit s reading act (listens_quiet post_plan s b.post [] l empty_waits) i)
 talks_act c cs post_plan plan limit b s k to_station to_car reading act p m suits (Rests l pauses none) i = absurd (quiet_acts c post_plan limit s reading act (listens_quiet post_plan s b.post [] l empty_waits) i)
@@ -191,7 +193,7 @@ ends_act c post_plan plan limit s k to_station to_car reading act (IsToStop orde
 ends_act c post_plan plan limit s k to_station to_car reading act (Stopped g ended none) i = quiet_acts c post_plan limit s reading act (gone_quiet post_plan s g) i
 
 by_end : (x : Bool) (c : post.Codecs) (cs : car.Codecs) (post_plan : PostPlan) (plan : CarPlan) (limit : ℕ) (b : Both) (s : State) (k : car_states.State) (to_station to_car : List ℕ) (reading : Option Reading) (act : Act)
-    → IsPair c cs post_plan plan → Meets post_plan b → ((later : Facts) (shown : ℕ) → Suits b.car.phase (exchange s.facts later shown)) → TalksBy x c cs post_plan plan b s k to_station to_car
+    → IsPair c cs post_plan plan → Meets post_plan b → IfRead reading ((later : Facts) (shown : ℕ) → Suits b.car.phase (exchange s.facts later shown)) → TalksBy x c cs post_plan plan b s k to_station to_car
     → Acts c post_plan (Shows limit [] []) s reading act true → IsOfExchange post_plan plan b s act
 by_end true c cs post_plan plan limit b s k to_station to_car reading act p m suits t i = absurd (ends_act c post_plan plan limit s k to_station to_car reading act t i)
 by_end false c cs post_plan plan limit b s k to_station to_car reading act p m suits t i = talks_act c cs post_plan plan limit b s k to_station to_car reading act p m suits t i

@@ -18,7 +18,7 @@ use Rattle.pair_words.specs.Exchanges.{Both}
 use Rattle.pair_words.specs.Laws.{both, end_of}
 use Rattle.pair_words.specs.Orders.{post_order}
 use Rattle.pair_phases.specs.Phases.{exchange, Words, NoneYet, Read, IsIn}
-use Rattle.pair_phases.specs.Acts.{IsPair, SuitsWords}
+use Rattle.pair_phases.specs.Acts.{IsPair, IfRead, SuitsWords}
 
 -- the order of the exchange, or Open as the session ends; what it says; and the end, by SessionStop alone
 abbrev pub IsOfExchange : PostPlan → CarPlan → Both → State → Act → Type 0
@@ -43,7 +43,7 @@ IsOfPhase post_plan plan (Read dialect xs) s act = IsOfExchange post_plan plan (
 abbrev pub PostsAct : post.Codecs → car.Codecs → Type 0
 PostsAct c cc = (post_plan : PostPlan) (plan : CarPlan) (limit : ℕ) (words : Words) (s : State) (k : car_states.State) (to_station to_car : List ℕ)
     (reading : Option Reading) (act : Act) → IsPair c cc post_plan plan → IsIn c cc post_plan plan words s k to_station to_car
-    → SuitsWords post_plan plan words s.facts → Acts c post_plan (Shows limit [] []) s reading act true → IsOfPhase post_plan plan words s act
+    → IfRead reading (SuitsWords post_plan plan words s.facts) → Acts c post_plan (Shows limit [] []) s reading act true → IsOfPhase post_plan plan words s act
 
 -- a car gives an order, says something, or ends, by SessionStop alone
 abbrev pub IsOfCar : car_steps.Act → Type 0

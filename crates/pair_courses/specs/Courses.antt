@@ -14,18 +14,18 @@ use Rattle.pipe_spec.specs.Turns.{Station, station_state, car_state}
 use Rattle.pipe_laws.specs.OneMessage.{IsShort}
 use Rattle.pipe_laws.specs.PipePasts.{IsFirst}
 use Rattle.pair_phases.specs.Phases.{Words, NoneYet, Read, IsIn}
-use Rattle.pair_phases.specs.Acts.{IsPair, SuitsWords}
+use Rattle.pair_phases.specs.Acts.{IsPair, IfRead, SuitsWords}
 use Rattle.pair_hearings.specs.Hearings.{IsUndisturbed}
 
 -- where the session stands
 abbrev pub IsAt : post.Codecs → car.Codecs → Station → CarPlan → Words → List Happening → Type 0
 IsAt c cc st plan words h = IsIn c cc st.post plan words (station_state st h) (car_state plan h) (to_station h) (to_car h)
 
--- no end has a cause of its own: what the charger told suits the request that the post judges, its last order didn't fail, none of its events is a cause,
+-- no end has a cause of its own: what the charger told suits the request that the post reads, its last order didn't fail, none of its events is a cause,
 -- and no deadline is reached
 abbrev pub GoesUndisturbed : post.Codecs → car.Codecs → Station → CarPlan → List Happening → Happening → Type 0
 GoesUndisturbed c cc st plan h (StationDoes reading act) =
-    (words : Words) → IsAt c cc st plan words h → SuitsWords st.post plan words (station_state st h).facts
+    (words : Words) → IsAt c cc st plan words h → IfRead reading (SuitsWords st.post plan words (station_state st h).facts)
 GoesUndisturbed c cc st plan h (ChargerTells event) = IsUndisturbed st.post (station_state st (ChargerTells event ∷ h))
 GoesUndisturbed c cc st plan h (StationHears bytes) = IsUndisturbed st.post (station_state st (StationHears bytes ∷ h))
 GoesUndisturbed c cc st plan h (CarHears bytes) =

@@ -114,6 +114,7 @@ pauses_on plan event at k stage a joined o t n later =
       stage_is = a.stage_is;
       unread_is = none;
       stop = no_stop event a.session.stop o ∙ a.stop;
+      sent = a.sent;
     }
 
 asks_again : (plan : CarPlan) (event : Event) (at : ℕ) (k : State) (stage : CarStage) (a : Pauses plan k stage) → IsOfCar event → timing plan (hearing at event k) ≡ nothing → brought event ≡ []

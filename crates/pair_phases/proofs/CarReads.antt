@@ -154,6 +154,7 @@ pauses_next plan k session to due payload joined later over u short stop =
       stage_is = refl;
       unread_is = left;
       stop = stop;
+      sent = refl;
     }
 
 -- it goes on to another stage, or waits to ask the same once more

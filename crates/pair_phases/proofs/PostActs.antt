@@ -41,7 +41,7 @@ use Rattle.pair_deeds.specs.Posts.{IsStill, DoesFirst, ReadsWord}
 use Rattle.pair_deeds.proofs.Posts.{posts_do_what_is_first, posts_read_words}
 use Rattle.pair_phases.specs.Ends.{Listens, IsToSend, GoesOnBy, Awaits}
 use Rattle.pair_phases.specs.Phases.{Comes, NothingComes, Begins, IsToOffer, Offered, Offers, Responded, exchange, Talks, IsToAsk, Rests, Asks, IsToReply, Closes, Replies, Ends, IsToStop, Stopped, NoneYet, Read, TalksBy}
-use Rattle.pair_phases.specs.Acts.{IsPair, PostsGoOn}
+use Rattle.pair_phases.specs.Acts.{IsPair, IfRead, PostsGoOn}
 use Rattle.pair_phases.proofs.Messages.{Front, OnItsWay, Whole, front, empty_waits, nothing_left, says}
 use Rattle.pair_phases.proofs.Posts.{same_arrived, quiet_acts, come_quiet, gone_quiet, listens_quiet, waits_quiet, listens, sends, Finishes, finishes}
 use Rattle.pair_phases.proofs.Answers.{TakesWords, meets_takes, Acted, replying, Keeps, acts_on}
@@ -143,16 +143,18 @@ spoken_by false post_plan plan b x d e =
     ∙ ap (λ (y : Reply). Some (Said b.car.dialect y)) (sym own)
 
 asks_whole : (c : post.Codecs) (cc : car.Codecs) (post_plan : PostPlan) (plan : CarPlan) (limit : ℕ) (b : Both) (s : State) (k : car_states.State) (to_station to_car : List ℕ) (reading : Option Reading) (act : Act)
-    (request unread : List ℕ) → IsPair c cc post_plan plan → Meets post_plan b → ((later : Facts) (shown : ℕ) → Suits b.car.phase (exchange s.facts later shown))
+    (request unread : List ℕ) → IsPair c cc post_plan plan → Meets post_plan b → IfRead reading ((later : Facts) (shown : ℕ) → Suits b.car.phase (exchange s.facts later shown))
     → cc.Encodes b.car.dialect (request_of plan b.car) request → (l : Listens post_plan s b.post unread) → Awaits plan k (Some b.car) [] → IsPayload request → NothingComes to_station to_car
     → unread ≡ frame request → length (station_says act) ≤ 65544 → Acts c post_plan (Shows limit [] []) s reading act true
     → Talks c cc post_plan plan b (acted act true (filled post_plan reading s)) k to_station (to_car ++ station_says act)
-asks_whole c cc post_plan plan limit b s k to_station to_car reading act request unread p meets suits encodes l awaits whole none u short i =
+asks_whole c cc post_plan plan limit b s k to_station to_car reading act request unread p meets suited encodes l awaits whole none u short i =
     let still : IsStill post_plan s l.session = l.still in
     let takes : TakesWords b.post.row = meets_takes post_plan b meets in
     let own : l.session.unread ≡ frame request = l.unread_is ∙ u in
     let r : ReadsWord c post_plan limit s l.session request reading act true =
     posts_read_words c post_plan limit s l.session request reading act true l.still (ap (λ (x : Stage). is_waiting x.row) l.stage_is ∙ takes.waits) own whole i in
+    let suits : (later : Facts) (shown : ℕ) → Suits b.car.phase (exchange s.facts later shown) =
+    subst (λ (o : Option Reading). IfRead o ((later : Facts) (shown : ℕ) → Suits b.car.phase (exchange s.facts later shown))) r.reading_is suited in
     let dialect_is : speaks l.session.stage ≡ Some b.car.dialect =
     ap speaks l.stage_is ∙ takes.speaks b.post.dialect ∙ ap (λ (d : Dialect). Some d) meets.dialect in
     let j : post.Judges c post_plan.dialects.items (Some b.car.dialect) request r.read.judged =
@@ -179,7 +181,7 @@ asks_whole c cc post_plan plan limit b s k to_station to_car reading act request
     (a.phase (subst (λ (y : Act). length (station_says y) ≤ 65544) {y = a.own} a.act_is short))
 
 asks_front : (c : post.Codecs) (cc : car.Codecs) (post_plan : PostPlan) (plan : CarPlan) (limit : ℕ) (b : Both) (s : State) (k : car_states.State) (to_station to_car : List ℕ) (reading : Option Reading) (act : Act)
-    (request unread : List ℕ) → IsPair c cc post_plan plan → Meets post_plan b → ((later : Facts) (shown : ℕ) → Suits b.car.phase (exchange s.facts later shown))
+    (request unread : List ℕ) → IsPair c cc post_plan plan → Meets post_plan b → IfRead reading ((later : Facts) (shown : ℕ) → Suits b.car.phase (exchange s.facts later shown))
     → cc.Encodes b.car.dialect (request_of plan b.car) request → Listens post_plan s b.post unread → Awaits plan k (Some b.car) [] → Comes request unread to_station → to_car ≡ []
     → Front request unread to_station → length (station_says act) ≤ 65544 → Acts c post_plan (Shows limit [] []) s reading act true
     → Talks c cc post_plan plan b (acted act true (filled post_plan reading s)) k to_station (to_car ++ station_says act)
@@ -220,7 +222,7 @@ leaves_by (Some cause) c post_plan limit s reading act stage to_car P k (inl e) 
     (subst (λ (way : List ℕ). P (acted (End does.number) true s) way) (sym (append-nil to_car)) (k (acted (End does.number) true s) (inr does.gone)))
 
 talks_on : (c : post.Codecs) (cc : car.Codecs) (post_plan : PostPlan) (plan : CarPlan) (limit : ℕ) (b : Both) (s : State) (k : car_states.State) (to_station to_car : List ℕ) (reading : Option Reading) (act : Act)
-    → IsPair c cc post_plan plan → Meets post_plan b → ((later : Facts) (shown : ℕ) → Suits b.car.phase (exchange s.facts later shown)) → Talks c cc post_plan plan b s k to_station to_car
+    → IsPair c cc post_plan plan → Meets post_plan b → IfRead reading ((later : Facts) (shown : ℕ) → Suits b.car.phase (exchange s.facts later shown)) → Talks c cc post_plan plan b s k to_station to_car
     → length (station_says act) ≤ 65544 → Acts c post_plan (Shows limit [] []) s reading act true
     → Talks c cc post_plan plan b (acted act true (filled post_plan reading s)) k to_station (to_car ++ station_says act)
 talks_on c cc post_plan plan limit b s k to_station to_car reading act p meets suits (IsToAsk order l say none) short i =
@@ -243,7 +245,7 @@ ends_on c post_plan plan limit s k to_station to_car reading act (IsToStop order
 ends_on c post_plan plan limit s k to_station to_car reading act (Stopped g ended none) i = quiet_acts c post_plan limit s reading act (gone_quiet post_plan s g) i
 
 by_end : (e : Bool) (c : post.Codecs) (cc : car.Codecs) (post_plan : PostPlan) (plan : CarPlan) (limit : ℕ) (b : Both) (s : State) (k : car_states.State) (to_station to_car : List ℕ) (reading : Option Reading) (act : Act)
-    → IsPair c cc post_plan plan → Meets post_plan b → ((later : Facts) (shown : ℕ) → Suits b.car.phase (exchange s.facts later shown)) → TalksBy e c cc post_plan plan b s k to_station to_car
+    → IsPair c cc post_plan plan → Meets post_plan b → IfRead reading ((later : Facts) (shown : ℕ) → Suits b.car.phase (exchange s.facts later shown)) → TalksBy e c cc post_plan plan b s k to_station to_car
     → length (station_says act) ≤ 65544 → Acts c post_plan (Shows limit [] []) s reading act true
     → TalksBy e c cc post_plan plan b (acted act true (filled post_plan reading s)) k to_station (to_car ++ station_says act)
 by_end true c cc post_plan plan limit b s k to_station to_car reading act p meets suits t short i = absurd (ends_on c post_plan plan limit s k to_station to_car reading act t i)

@@ -1,5 +1,5 @@
 -- Own: the acts of both ends lead from one phase of a session to the next.
-use Rattle.std.specs.Prelude.{◌≡◌, ℕ, ◌≤◌, true, List, [], ◌∷◌, ◌++◌, length, Option}
+use Rattle.std.specs.Prelude.{◌≡◌, ℕ, ◌≤◌, true, List, [], ◌∷◌, ◌++◌, length, Option, Some, None}
 use Rattle.session_words.specs.declared.facts.Facts.{Facts}
 use Rattle.session_words.specs.declared.plan.CarPlan.{CarPlan}
 use Rattle.session_words.specs.declared.plan.PostPlan.{PostPlan}
@@ -37,11 +37,16 @@ abbrev pub SuitsWords : PostPlan → CarPlan → Words → Facts → Type 0
 SuitsWords post_plan plan NoneYet facts = Unit {0}
 SuitsWords post_plan plan (Read dialect xs) facts = SuitsNow post_plan plan dialect xs facts
 
+-- something is asked for where a request is read, and nothing where what was decided before is done: a reply that waited for the contactor goes with that closed
+abbrev pub IfRead : Option Reading → Type 0 → Type 0
+IfRead None Holds = Unit {0}
+IfRead (Some reading) Holds = Holds
+
 -- 65,544: the bytes of the longest frame that is read. The post is alone at a site with this limit
 abbrev pub PostsGoOn : post.Codecs → car.Codecs → Type 0
 PostsGoOn c cc = (post_plan : PostPlan) (plan : CarPlan) (limit : ℕ) (words : Words) (s : State) (k : car_states.State) (to_station to_car : List ℕ)
     (reading : Option Reading) (act : Act) → IsPair c cc post_plan plan → IsIn c cc post_plan plan words s k to_station to_car
-    → SuitsWords post_plan plan words s.facts → length (station_says act) ≤ 65544 → Acts c post_plan (Shows limit [] []) s reading act true
+    → IfRead reading (SuitsWords post_plan plan words s.facts) → length (station_says act) ≤ 65544 → Acts c post_plan (Shows limit [] []) s reading act true
     → IsIn c cc post_plan plan words (acted act true (filled post_plan reading s)) k to_station (to_car ++ station_says act)
 
 abbrev pub CarsGoOn : post.Codecs → car.Codecs → Type 0

@@ -85,7 +85,7 @@ pub record Awaits (plan : CarPlan) (k : car.State) (stage : Option CarStage) (un
   pub sent_is : session.moments.sent ≡ Some sent
   pub again : session.again ≡ None
 
--- it waits to ask the request of this stage once more
+-- it waits to ask the request of this stage once more. All that it said has its reply
 pub record Pauses (plan : CarPlan) (k : car.State) (stage : CarStage) : Type 0 where
   pub session : car.Session
   pub still : cars.IsStill plan k session
@@ -93,6 +93,7 @@ pub record Pauses (plan : CarPlan) (k : car.State) (stage : CarStage) : Type 0 w
   pub stage_is : session.stage ≡ Some stage
   pub unread_is : session.unread ≡ []
   pub stop : session.stop ≡ false
+  pub sent : session.moments.sent ≡ None
 
 -- it is to give an order, where there is one, and to end by this cause
 pub record IsToFinish (plan : CarPlan) (k : car.State) (order : Option Order) (cause : EndCause) : Type 0 where

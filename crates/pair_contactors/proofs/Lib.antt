@@ -1,0 +1,4 @@
+pub mod Waiting
+pub mod Rows
+pub mod Places
+pub mod Contactors
