@@ -1,0 +1,9 @@
+pub mod Ports
+pub mod Overs
+pub mod Tallies
+pub mod Acts
+pub mod Steps
+pub mod Lessening
+pub mod Turns
+pub mod Happened
+pub mod Sessions

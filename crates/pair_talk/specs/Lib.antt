@@ -1,0 +1,10 @@
+pub mod Reports
+pub mod Sides
+pub mod Keeping
+pub mod Acting
+pub mod Lessening
+pub mod Beginning
+pub mod Ending
+pub mod Making
+pub use Rattle.pipe_spec.specs.Counts
+pub use Rattle.pipe_spec.specs.Runs
