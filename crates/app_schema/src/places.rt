@@ -1,16 +1,19 @@
 //! What is offered at each place, written out.
 
-ghost use Rattle.std.specs.Prelude.{◌≡◌, ◌≤◌, ◌<◌, ℕ, [], ◌∷◌, nat_lt, if◌then◌else◌, Some, false, slice_get};
+ghost use Rattle.std.specs.Prelude.{◌≡◌, ◌≤◌, ◌<◌, ℕ, [], ◌∷◌, nat_lt, if◌then◌else◌, Some, false, length, slice_get};
 ghost use Rattle.exi_schema.specs.Offers.{IsPlace, offers, behind_copy, simple_step};
+ghost use Rattle.exi_schema.specs.Steps.{IsRoot, IsRootOf, simple_at};
 ghost use Rattle.exi_schema.specs.declared.places.Step.TheVariants.{Element, End as TheEnd};
 ghost use Rattle.exi_schema.specs.declared.tables.MemberStanding.TheVariants.{Taken};
-ghost use Rattle.app_schema.specs.Declarations.{kinds, negotiation_schema};
+ghost use Rattle.app_schema.specs.Declarations.{kinds, names, roots, negotiation_schema};
 ghost use Rattle.app_schema.specs.Rows.{at, list_of, steps_of};
 
-use crate::names::{APP_PROTOCOL, MAJOR, MINOR, NAMESPACE, PRIORITY, RESPONSE_CODE, SCHEMA_ID};
+use crate::names::{
+    APP_PROTOCOL, MAJOR, MINOR, NAMESPACE, PRIORITY, REQUEST, RESPONSE, RESPONSE_CODE, SCHEMA_ID,
+};
 use crate::tables::{
     CODE_NAME, NAMESPACE_TEXT, PRIORITY_NUMBER, PROTOCOL, REQUEST_KIND, RESPONSE_KIND,
-    UNSIGNED_BYTE, UNSIGNED_INT, negotiation,
+    UNSIGNED_BYTE, UNSIGNED_INT,
 };
 use exi_schema::{
     Codes, Datatype, MemberStanding, Offer, OptionalSequence, Place, Places, Root, SequenceChild,
@@ -25,12 +28,13 @@ struct Row {
 }
 
 impl Row {
-    ghost use Rattle.std.specs.Prelude.{length, None, IfSome};
+    ghost use Rattle.std.specs.Prelude.{None, IfSome};
     ghost use Rattle.exi_schema.specs.Offers.{IsWidth};
     ghost use Rattle.exi_schema.specs.Steps.{IsSought};
     ghost use Rattle.exi_schema.specs.declared.places.Step.{Step as SchemaStep};
 
     /// How many steps it has.
+    #[inline(always)]
     fn count(self) -> u16
         ensures { result ≡ length (steps_of self) }
     {
@@ -42,6 +46,7 @@ impl Row {
 
     /// How many bits a code has.
     #[tactic(auto, using(crate::proofs::Placed::width_of_one, crate::proofs::Placed::width_of_two))]
+    #[inline(always)]
     fn width(self) -> u32
         ensures { IsWidth (length (steps_of self)) result }
     {
@@ -91,6 +96,7 @@ impl Row {
     }
 
     /// The step of a code.
+    #[inline(always)]
     fn step(self, code: u16) -> Step
         requires { code < length (steps_of self) }
         ensures { Some result ≡ slice_get (steps_of self) code }
@@ -103,6 +109,7 @@ impl Row {
 }
 
 /// A place behind so many particles of a kind.
+#[inline(always)]
 fn behind(kind: u16, particle: u16) -> Place
     ensures { result ≡ at kind particle 0 }
 {
@@ -115,6 +122,7 @@ fn behind(kind: u16, particle: u16) -> Place
 }
 
 /// An element that may stand there, and the place behind it.
+#[inline(always)]
 fn element(name: u16, kind: u16, next: Place) -> Step
     ensures { result ≡ Element name kind next Taken false }
 {
@@ -128,6 +136,7 @@ fn element(name: u16, kind: u16, next: Place) -> Step
 }
 
 /// The characters of a value, or the end behind them.
+#[inline(always)]
 fn value_step(kind: u16, particle: u16) -> Step
     ensures { result ≡ simple_step (at kind particle 0) }
 {
@@ -141,6 +150,7 @@ fn value_step(kind: u16, particle: u16) -> Step
 }
 
 /// What stands in an AppProtocol behind so many of its five elements.
+#[inline(always)]
 fn protocol_step(particle: u16) -> Step
     requires { particle ≤ 5 }
     ensures { result ∷ [] ≡ offers kinds (at 5 particle 0) }
@@ -156,6 +166,7 @@ fn protocol_step(particle: u16) -> Step
 }
 
 /// The place behind an AppProtocol, before which there are so many.
+#[inline(always)]
 fn behind_protocol(copies: u16) -> Place
     requires { copies < 20 }
     ensures { result ≡ behind_copy 6 0 0 copies (Some 20) }
@@ -171,6 +182,7 @@ fn behind_protocol(copies: u16) -> Place
 }
 
 /// The end of a request, where it has a protocol.
+#[inline(always)]
 fn end_behind(copies: u16) -> Option<Step>
     ensures { list_of result ≡ (if nat_lt copies 1 then [] else TheEnd ∷ []) }
 {
@@ -178,6 +190,7 @@ fn end_behind(copies: u16) -> Option<Step>
 }
 
 /// What stands in a request behind so many protocols.
+#[inline(always)]
 fn protocol_or_end(copies: u16) -> Row
     requires { copies < 20 }
     ensures { steps_of result ≡ offers kinds (at 6 0 copies) }
@@ -189,6 +202,7 @@ fn protocol_or_end(copies: u16) -> Row
 }
 
 /// What stands in a response behind so many of its elements.
+#[inline(always)]
 fn response_row(particle: u16) -> Row
     requires { particle ≤ 2 }
     ensures { steps_of result ≡ offers kinds (at 7 particle 0) }
@@ -231,12 +245,57 @@ fn row_at(place: Place) -> Row
 }
 
 /// One step.
+#[inline(always)]
 fn one(first: Step) -> Row
     ensures { steps_of result ≡ first ∷ [] }
 {
     Row {
         first,
         second: None,
+    }
+}
+
+/// The datatype of a kind, if it is simple.
+#[inline(always)]
+fn datatype_at(kind: u16) -> Option<Datatype>
+    requires { kind < length kinds }
+    ensures { result ≡ simple_at kinds kind }
+{
+    match kind {
+        NAMESPACE_TEXT => Some(Datatype::Text { most: 100 }),
+        UNSIGNED_INT => Some(Datatype::Unsigned {
+            most: 4_294_967_295,
+        }),
+        UNSIGNED_BYTE => Some(Datatype::Bounded {
+            least: 0,
+            count: 256,
+        }),
+        PRIORITY_NUMBER => Some(Datatype::Bounded {
+            least: 1,
+            count: 20,
+        }),
+        CODE_NAME => Some(Datatype::Named { count: 3 }),
+        _ => None,
+    }
+}
+
+/// What a document number names.
+#[inline(always)]
+fn root_at(number: u32) -> Root
+    ensures named { IsRoot roots 2 number result }
+    ensures of_schema { IsRootOf kinds (length names) result }
+{
+    match number {
+        0 => Root::Kind {
+            name: REQUEST,
+            kind: REQUEST_KIND,
+        },
+        1 => Root::Kind {
+            name: RESPONSE,
+            kind: RESPONSE_KIND,
+        },
+        3 => Root::NoSuch,
+        _ => Root::Unknown,
     }
 }
 
@@ -250,6 +309,7 @@ impl Places for NegotiationPlaces {
 
     ghost keeps_sequences = { λ _. false };
 
+    #[inline(always)]
     fn alternatives(&self, place: Place) -> u16 {
         row_at(place).count()
     }
@@ -264,6 +324,7 @@ impl Places for NegotiationPlaces {
         row_at(place).find(sought)
     }
 
+    #[inline(always)]
     fn width(&self, place: Place) -> u32 {
         row_at(place).width()
     }
@@ -273,23 +334,28 @@ impl Places for NegotiationPlaces {
         row_at(place).step(code)
     }
 
+    #[inline(always)]
     fn datatype(&self, kind: u16) -> Option<Datatype> {
-        negotiation().datatype(kind)
+        datatype_at(kind)
     }
 
+    #[inline(always)]
     fn sequence(&self, _kind: u16) -> &[SequenceChild] {
         &[]
     }
 
+    #[inline(always)]
     fn optional_sequence(&self, _kind: u16) -> Option<&OptionalSequence> {
         None
     }
 
+    #[inline(always)]
     fn root_width(&self) -> u32 {
         2
     }
 
+    #[inline(always)]
     fn root(&self, number: u32) -> Root {
-        negotiation().root(number)
+        root_at(number)
     }
 }

@@ -2,3 +2,4 @@ pub mod Reporting
 pub mod Deeds
 pub mod Sound
 pub mod Driving
+pub mod Made

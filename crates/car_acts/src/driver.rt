@@ -1,10 +1,15 @@
 //! A car with its plan, and what it reports.
 
-ghost use Rattle.std.specs.Prelude.{◌≡◌};
+ghost use Rattle.std.specs.Prelude.{◌≡◌, IfOk, length};
+ghost use Rattle.session_words.specs.Plans.{IsCarPlan};
+ghost use Rattle.car_codec.specs.Requests.{IsPlan};
+ghost use Rattle.car_acts.specs.Made.{IsMadeOf};
 ghost use Rattle.car_acts.specs.Reporting.{report_by, reported};
 
+use charge_world::NoMemory;
 use evcc_machine::Car;
 use session_words::{CarPlan, EndCause, SessionId};
+use std::alloc::Global;
 use std::marker::Model;
 
 /// What a car reports. Contracts see the report of the definitions.
@@ -77,7 +82,39 @@ impl CarReport {
     }
 }
 
+/// An EVCCID has six bytes.
+fn bound_id(id: [u8; 6])
+    ensures { length id ≡ 6 }
+{}
+
+/// The values of a plan are within their types. It does nothing: each value is looked at for the prover, which so knows its bound.
+fn bound_plan(plan: &CarPlan)
+    requires { IsCarPlan plan.now }
+    ensures { IsPlan plan.now }
+{
+    bound_id(plan.car_id);
+    let _target_voltage = plan.target_voltage.get();
+    let _target_current = plan.target_current.get();
+    let _max_voltage = plan.max_voltage.get();
+    let _max_current = plan.max_current.get();
+    let _min_current = plan.min_current.get();
+}
+
 impl Driver {
+    /// A car of this plan that heard nothing yet. It takes all the memory that the car needs.
+    pub fn make(alloc: Global, plan: CarPlan) -> Result<Driver, NoMemory>
+        requires { IsCarPlan plan }
+        ensures { IfOk result (IsMadeOf plan) }
+    {
+        bound_plan(&plan);
+        let car = Car::make(alloc)?;
+        Ok(Driver {
+            plan,
+            car,
+            report: None,
+        })
+    }
+
     /// What the car reported at its end; before that, its charging replies so far.
     pub fn report(&self) -> CarReport
         ensures { result ≡ reported self.now.report self.now.car }

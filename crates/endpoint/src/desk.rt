@@ -3,7 +3,8 @@
 ghost use Rattle.std.specs.Prelude.{◌≡◌, ◌≤◌, ◌+◌, length, take, drop, vec_len};
 ghost use Rattle.v2gtp_frames.specs.Frames.{frame};
 
-use trace_lines::TraceLines;
+use std::alloc::Global;
+use trace_lines::{NoMemory, TraceLines};
 use v2gtp_frames::put_frame;
 
 /// The bytes of the longest frame that an end sends.
@@ -16,6 +17,15 @@ pub struct Desk<C> {
     pub room: Vec<u8>,
     pub lines: TraceLines,
     ghost wide: { vec_len room ≡ 1032 },
+}
+
+impl<C: Drop> Desk<C> {
+    /// The codecs of an end, with the rooms in which frames and lines are made.
+    pub fn make(alloc: Global, codec: C) -> Result<Desk<C>, NoMemory> {
+        let room = vec![in alloc; 0; FRAME]?;
+        let lines = TraceLines::make(alloc)?;
+        Ok(Desk { codec, room, lines })
+    }
 }
 
 /// Writes the frame of a payload that stands behind the header's place.

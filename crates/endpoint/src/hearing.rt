@@ -78,7 +78,7 @@ pub fn bound_heard(heard: &Heard, room: &[u8])
 }
 
 /// The amounts of an event of the charger are within their types. It does nothing, likewise.
-fn bound_event(event: &PlantEvent)
+pub fn bound_event(event: &PlantEvent)
     ensures { IsPlantEvent event.now }
 {
     if let PlantEvent::Measured { voltage, current } = event {

@@ -14,6 +14,6 @@ mod lines;
 pub use calls::{Call, Outcome, done, perform};
 pub use closing::open;
 pub use desk::{Desk, FRAME, put_header};
-pub use hearing::{SoFar, bound_heard, bytes_heard};
+pub use hearing::{SoFar, bound_event, bound_heard, bytes_heard};
 pub use lines::{write_heard, write_lost};
 pub use trace_lines::{TraceFailed, TraceLines};

@@ -4,11 +4,9 @@ ghost use Rattle.std.specs.Prelude.{◌≡◌, ◌≤◌, ◌+◌, ◌++◌, [],
 ghost use Rattle.pipe_spec.specs.Turns.{is_none};
 
 use crate::NoMemory;
+use endpoint::FRAME;
 use std::alloc::Global;
 use std::marker::Model;
-
-/// The most bytes under way: those of the longest frame that an end sends.
-const ROOM: usize = 1032;
 
 /// The bytes under way to an end, the first to be heard first, in memory that is taken once. Contracts see them.
 #[derive(Drop)]
@@ -32,7 +30,7 @@ impl Way {
         ensures { IfOk result (λ way. way ≡ []) }
     {
         Ok(Way {
-            bytes: Vec::with_capacity(alloc, ROOM)?,
+            bytes: Vec::with_capacity(alloc, FRAME)?,
         })
     }
 
@@ -55,7 +53,7 @@ impl Way {
     pub fn send(&mut self, bytes: &[u8])
         ensures { length self.old + length bytes.now ≤ 1032 → self.new ≡ self.old ++ bytes.now }
     {
-        if bytes.len() <= ROOM - self.bytes.len() {
+        if bytes.len() <= FRAME - self.bytes.len() {
             let _ = self.bytes.extend_from_slice(bytes);
         }
     }

@@ -1,11 +1,10 @@
 //! A pair in memory. All memory that a session needs is taken when it is made.
 
-ghost use Rattle.std.specs.Prelude.{◌≡◌, ◌≤◌, ◌∷◌, IfOk, List, length};
+ghost use Rattle.std.specs.Prelude.{◌≡◌, IfOk};
 ghost use Rattle.session_words.specs.Plans.{IsCarPlan, IsPostPlan, IsSitePlan};
 ghost use Rattle.session_words.specs.declared.plan.PostPlan.{PostPlan as PostPlanOf};
 ghost use Rattle.station_spec.specs.States.{fresh};
 ghost use Rattle.plant_sim.specs.Charger.{idle};
-ghost use Rattle.site_codec.specs.Replies.{IsPlan as IsPostPlanned};
 ghost use Rattle.car_codec.specs.Requests.{IsPlan};
 ghost use Rattle.pipe_spec.specs.Histories.{joined};
 ghost use Rattle.pair_ends.specs.Ends.{post_side, car_side};
@@ -17,70 +16,25 @@ ghost use Rattle.pair_talk.specs.Sides.{sides};
 
 use crate::NoMemory;
 use crate::pair::Pair;
-use bitflags::Flags;
 use car_acts::Driver;
-use evcc_machine::Car;
+use endpoint::FRAME;
 use pair_ends::{CarEnd, CarTally, PostEnd, PostTally, Way};
 use pipe_spec::Numbers;
 use plant_sim::Sim;
-use secc_machine::Post;
 use session_words::{CarPlan, PostPlan, SitePlan};
-use site_posts::{CauseSet, Place, PostReport};
+use site_posts::Place;
 use std::alloc::Global;
-
-/// The bytes of the longest frame that an end sends.
-const FRAME: usize = 1032;
 
 /// A port that a plan may name. A car that is joined to a station dials none.
 const PORT: u16 = 15118;
-
-/// The amounts of a plan are within their types. It does nothing: each is looked at for the prover, which so knows its bound.
-fn bound_post(plan: &PostPlan)
-    requires { IsPostPlan plan.now }
-    ensures { IsPostPlanned plan.now }
-{
-    let _max_voltage = plan.max_voltage.get();
-    let _min_voltage = plan.min_voltage.get();
-    let _max_current = plan.max_current.get();
-    let _min_current = plan.min_current.get();
-    let _ripple = plan.ripple.get();
-}
-
-/// An EVCCID has six bytes.
-fn bound_id(id: [u8; 6])
-    ensures { length id ≡ 6 }
-{}
-
-/// The values of a plan are within their types. It does nothing, likewise.
-fn bound_car(plan: &CarPlan)
-    requires { IsCarPlan plan.now }
-    ensures { IsPlan plan.now }
-{
-    bound_id(plan.car_id);
-    let _target_voltage = plan.target_voltage.get();
-    let _target_current = plan.target_current.get();
-    let _max_voltage = plan.max_voltage.get();
-    let _max_current = plan.max_current.get();
-    let _min_current = plan.min_current.get();
-}
 
 /// A post of this plan that heard nothing yet, alone at a site of so many watts.
 fn post_made(alloc: Global, plan: &PostPlan, limit: u32) -> Result<PostEnd, NoMemory>
     requires { IsPostPlan plan.now }
     ensures { IfOk result (λ end. IsNewPost plan.now limit (post_side end)) }
 {
-    bound_post(plan);
     let mut places = Vec::new(alloc);
-    let place = Place {
-        plan: plan.copied(),
-        post: Post::make(alloc)?,
-        report: PostReport {
-            sessions: 0,
-            closed: 0,
-            causes: CauseSet::empty(),
-        },
-    };
-    places.push(place)?;
+    places.push(Place::make(alloc, plan)?)?;
     let room = vec![in alloc; 0; FRAME]?;
     Ok(PostEnd {
         places,
@@ -95,15 +49,13 @@ fn post_made(alloc: Global, plan: &PostPlan, limit: u32) -> Result<PostEnd, NoMe
 pub(crate) fn plan_joined(plan: &CarPlan) -> CarPlan
     requires { IsCarPlan plan.now }
     ensures value { result ≡ ported (joined plan.now) }
-    ensures rules { IsPlan result }
+    ensures rules { IsCarPlan result }
 {
-    let car = CarPlan {
+    CarPlan {
         sdp: 0,
         tcp: Some(PORT),
         ..plan.copied()
-    };
-    bound_car(&car);
-    car
+    }
 }
 
 /// A car of this plan.
@@ -112,14 +64,10 @@ fn car_made(alloc: Global, plan: &CarPlan) -> Result<CarEnd, NoMemory>
     ensures plan { IfOk result (λ end. (car_side end).plan ≡ ported (joined plan.now)) }
     ensures rules { IfOk result (λ end. IsPlan (car_side end).plan) }
 {
-    let car = Car::make(alloc)?;
+    let driver = Driver::make(alloc, plan_joined(plan))?;
     let room = vec![in alloc; 0; FRAME]?;
     Ok(CarEnd {
-        driver: Driver {
-            plan: plan_joined(plan),
-            car,
-            report: None,
-        },
+        driver,
         tally: CarTally::nothing(),
         room,
     })

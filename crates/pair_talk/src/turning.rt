@@ -4,7 +4,6 @@ ghost use Rattle.std.specs.Prelude.{◌≡◌, ◌<◌, ◌+◌, ◌^◌, List, 
 ghost use Rattle.session_words.specs.declared.plan.CarPlan.{CarPlan};
 ghost use Rattle.plant_sim.specs.Charger.{NoneReached};
 ghost use Rattle.post_spec.specs.Codecs.{codecs};
-ghost use Rattle.station_spec.specs.Blocks.{IsPlantEvent};
 ghost use Rattle.car_spec.specs.Codecs as car_codecs;
 ghost use Rattle.pipe_spec.specs.Histories.{Happening};
 ghost use Rattle.pipe_spec.specs.Turns.{Station};
@@ -16,18 +15,8 @@ ghost use Rattle.pair_talk.specs.Sides.{sides};
 use crate::acting::answer;
 use crate::pair::Pair;
 use car_codec::CarCodec;
-use charge_world::PlantEvent;
+use endpoint::bound_event;
 use site_codec::Codec;
-
-/// The amounts of an event are within their types. It does nothing: each is looked at for the prover, which so knows its bound.
-fn bound_event(event: &PlantEvent)
-    ensures { IsPlantEvent event.now }
-{
-    if let PlantEvent::Measured { voltage, current } = event {
-        let _voltage = voltage.get();
-        let _current = current.get();
-    }
-}
 
 /// Where the charger tells nothing, the next piece is heard, at the station first; where nothing is under way, time passes.
 fn pass_on<C: Codec, D: CarCodec>(pair: &mut Pair)

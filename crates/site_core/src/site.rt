@@ -1,24 +1,19 @@
 //! A site in memory.
 
 ghost use Rattle.std.specs.Prelude.{◌≡◌, ◌≤◌, ◌-◌, [], IfOk, vec_len};
-ghost use Rattle.session_words.specs.Plans.{IsSitePlan, IsPostPlan};
+ghost use Rattle.session_words.specs.Plans.{IsSitePlan};
 ghost use Rattle.post_spec.specs.Codecs.{codecs};
-ghost use Rattle.station_spec.specs.Runs.{unheard};
-ghost use Rattle.site_codec.specs.Replies.{IsPlan};
 ghost use Rattle.site_posts.specs.Filling.{at};
-ghost use Rattle.site_posts.specs.Places.{place_of};
 ghost use Rattle.site_turns.specs.Ending.{AreMadeOf};
 ghost use Rattle.site_turns.specs.SoFar.{IsSoFar};
 ghost use Rattle.site_core.specs.Hearing.{MayHear};
 
-use bitflags::Flags;
-use endpoint::{Desk, FRAME, SoFar};
-use secc_machine::Post;
-use session_words::{PostPlan, SitePlan};
+use endpoint::{Desk, SoFar};
+use session_words::SitePlan;
 use site_codec::Codec;
-use site_posts::{CauseSet, Place, PostReport};
+use site_posts::{Place, PostReport};
 use std::alloc::Global;
-use trace_lines::{NoMemory, TraceLines};
+use trace_lines::NoMemory;
 
 /// A site of one to eight posts, with the codecs of its messages. All memory of serving is taken when it is made; a site of eight posts
 /// takes less than 2 MB.
@@ -31,37 +26,6 @@ pub struct Site<C> {
     pub(crate) so_far: SoFar,
 }
 
-/// The amounts of a plan are within their types. It does nothing: each is looked at for the prover, which so knows its bound.
-fn bound_plan(plan: &PostPlan)
-    requires { IsPostPlan plan.now }
-    ensures { IsPlan plan.now }
-{
-    let _max_voltage = plan.max_voltage.get();
-    let _min_voltage = plan.min_voltage.get();
-    let _max_current = plan.max_current.get();
-    let _min_current = plan.min_current.get();
-    let _ripple = plan.ripple.get();
-}
-
-/// A post of this plan that heard nothing yet.
-fn place_made(alloc: Global, plan: &PostPlan) -> Result<Place, NoMemory>
-    requires { IsPostPlan plan.now }
-    ensures made { IfOk result (λ place. place ≡ place_of (unheard plan.now)) }
-    ensures plan { IfOk result (λ place. IsPlan place.plan) }
-{
-    bound_plan(plan);
-    let post = Post::make(alloc)?;
-    Ok(Place {
-        plan: plan.copied(),
-        post,
-        report: PostReport {
-            sessions: 0,
-            closed: 0,
-            causes: CauseSet::empty(),
-        },
-    })
-}
-
 /// Posts of these plans that heard nothing yet.
 fn places_made(alloc: Global, plan: &SitePlan) -> Result<Vec<Place>, NoMemory>
     requires { IsSitePlan plan.now }
@@ -69,17 +33,10 @@ fn places_made(alloc: Global, plan: &SitePlan) -> Result<Vec<Place>, NoMemory>
 {
     let mut places = Vec::new(alloc);
     for post in plan.post.as_slice() {
-        let place = place_made(alloc, post)?;
+        let place = Place::make(alloc, post)?;
         places.push(place)?;
     }
     Ok(places)
-}
-
-/// The codecs of a site, with the rooms in which frames and lines are made.
-fn desk_made<C: Drop>(alloc: Global, codec: C) -> Result<Desk<C>, NoMemory> {
-    let room = vec![in alloc; 0; FRAME]?;
-    let lines = TraceLines::make(alloc)?;
-    Ok(Desk { codec, room, lines })
 }
 
 impl<C: Codec + Drop> Site<C> {
@@ -90,7 +47,7 @@ impl<C: Codec + Drop> Site<C> {
         ensures waits { IfOk result (λ site. MayHear C.reads site.places.items) }
         ensures run { IfOk result (λ site. IsSoFar (codecs C.negotiates C.reads C.encodes) plan.now site.so_far site.places.items []) }
     {
-        let desk = desk_made(alloc, codec)?;
+        let desk = Desk::make(alloc, codec)?;
         let places = places_made(alloc, plan)?;
         Ok(Site {
             desk,

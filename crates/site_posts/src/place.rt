@@ -1,15 +1,21 @@
 //! A post of a site, with its plan and what it counted.
 
-ghost use Rattle.std.specs.Prelude.{◌≡◌, ◌<◌, ◌+◌, ◌&&◌, if◌then◌else◌, ℕ, List, true};
+ghost use Rattle.std.specs.Prelude.{◌≡◌, ◌<◌, ◌+◌, ◌&&◌, if◌then◌else◌, ℕ, IfOk, List, true};
 ghost use Rattle.station_spec.specs.Report.{is_close};
 ghost use Rattle.post_spec.specs.Steps.{Give, Send, Answer, End};
+ghost use Rattle.station_spec.specs.Runs.{unheard};
 ghost use Rattle.session_words.specs.Causes.{number_of};
-ghost use Rattle.site_posts.specs.Places.{capped, done_place};
+ghost use Rattle.session_words.specs.Plans.{IsPostPlan};
+ghost use Rattle.site_codec.specs.Replies.{IsPlan};
+ghost use Rattle.site_posts.specs.Places.{capped, done_place, place_of};
 
+use crate::causes::CauseSet;
 use crate::report::PostReport;
-use charge_world::Order;
+use bitflags::Flags;
+use charge_world::{NoMemory, Order};
 use session_words::{EndCause, PostPlan};
 use site_codec::secc_machine::{Done, Post};
+use std::alloc::Global;
 
 /// A post of a site.
 #[derive(Drop)]
@@ -19,7 +25,37 @@ pub struct Place {
     pub report: PostReport,
 }
 
+/// The amounts of a plan are within their types. It does nothing: each is looked at for the prover, which so knows its bound.
+fn bound_plan(plan: &PostPlan)
+    requires { IsPostPlan plan.now }
+    ensures { IsPlan plan.now }
+{
+    let _max_voltage = plan.max_voltage.get();
+    let _min_voltage = plan.min_voltage.get();
+    let _max_current = plan.max_current.get();
+    let _min_current = plan.min_current.get();
+    let _ripple = plan.ripple.get();
+}
+
 impl Place {
+    /// A post of this plan that heard nothing yet. It takes all the memory that the post needs.
+    pub fn make(alloc: Global, plan: &PostPlan) -> Result<Place, NoMemory>
+        requires { IsPostPlan plan.now }
+        ensures made { IfOk result (λ place. place ≡ place_of (unheard plan.now)) }
+        ensures plan { IfOk result (λ place. IsPlan place.plan) }
+    {
+        bound_plan(plan);
+        Ok(Place {
+            plan: plan.copied(),
+            post: Post::make(alloc)?,
+            report: PostReport {
+                sessions: 0,
+                closed: 0,
+                causes: CauseSet::empty(),
+            },
+        })
+    }
+
     /// An order was given, and taken or not.
     pub fn gave(&mut self, order: Order, taken: bool)
         ensures { self.new ≡ done_place (Give order) taken self.old }
