@@ -50,7 +50,7 @@ day_fits = omega arith
 shorts_fit : Fits shorts
 shorts_fit = omega arith
 
-seeds_fit : Fits seeds
+pub seeds_fit : Fits seeds
 seeds_fit = omega arith
 
 value_is : (bound n : ℕ) → Fits bound → n < bound → digits_value 10 (decimal n) ≡ n
@@ -113,7 +113,7 @@ read (talk site vehicle seed) within = record {
   values = site ∷ vehicle ∷ decimal seed ∷ [];
   words_are = refl;
   taken = refl;
-  told_is = ap (λ (n : Option ℕ). option_map (λ (found : Text × Text × ℕ). talk found.0 found.1.0 found.1.1) (option_map (λ (number : ℕ). (site, vehicle, number)) n)) (number_is seeds seed seeds_fit within);
+  told_is = ap (λ (n : Option ℕ). option_map (λ (found : Text × Text × ℕ). talk found.0 found.1 found.2) (option_map (λ (number : ℕ). (site, vehicle, number)) n)) (number_is seeds seed seeds_fit within);
 }
 read (decode App hex) within = record { name = codes "decode"; values = codes "app" ∷ hex ∷ []; words_are = refl; taken = refl; told_is = refl }
 read (decode Iso hex) within = record { name = codes "decode"; values = codes "iso" ∷ hex ∷ []; words_are = refl; taken = refl; told_is = refl }
@@ -194,7 +194,7 @@ makes_seed name make is (a ∷ []) asked many says = absurd (omega (arith, many)
 makes_seed name make is (a ∷ b ∷ []) asked many says = absurd (omega (arith, many))
 makes_seed name make is (a ∷ b ∷ c ∷ []) asked many says = go (number_named seeds c) refl says
   where
-    go : (found : Option ℕ) → number_named seeds c ≡ found → option_map (λ (found : Text × Text × ℕ). make found.0 found.1.0 found.1.1) (option_map (λ (number : ℕ). (a, b, number)) found) ≡ Some asked
+    go : (found : Option ℕ) → number_named seeds c ≡ found → option_map (λ (found : Text × Text × ℕ). make found.0 found.1 found.2) (option_map (λ (number : ℕ). (a, b, number)) found) ≡ Some asked
         → Says (name ∷ a ∷ b ∷ c ∷ []) asked
     go None is_none e = let bad : None ≡ Some asked = e in absurd cc
     go (Some n) found e =

@@ -100,7 +100,7 @@ abbrev pub with_seed : Text → (Text → Text → ℕ → Asked) → Form
 with_seed name make = record {
   name = name;
   values = Three;
-  asks = λ rows. option_map (λ found. make found.0 found.1.0 found.1.1) (both_and_seed rows);
+  asks = λ rows. option_map (λ found. make found.0 found.1 found.2) (both_and_seed rows);
 }
 
 -- the forms of all commands

@@ -200,7 +200,7 @@ fn number_named(word: &str, bound: u32) -> Option<u32>
 
 /// The first two values of a command, and the seed that the third is.
 fn with_seed<'a>(values: &ArgMatches<'a>) -> Option<(&'a str, &'a str, u64)>
-    ensures { option_map (λ found. (found.0.now, found.1.0.now, found.1.1)) result ≡ both_and_seed (rows_of (found_of values.now)) }
+    ensures { option_map (λ found. (found.0.now, found.1.now, found.2)) result ≡ both_and_seed (rows_of (found_of values.now)) }
 {
     let (one, other) = both(values)?;
     let seed = seed_named(third(values)?)?;
@@ -211,7 +211,10 @@ fn with_seed<'a>(values: &ArgMatches<'a>) -> Option<(&'a str, &'a str, u64)>
 fn seed_named(word: &str) -> Option<u64>
     ensures { result ≡ seed_named word.now }
 {
-    number(word.as_bytes(), 0, u64::MAX).ok()
+    match number(word.as_bytes(), 0, u64::MAX) {
+        Ok(seed) => Some(seed),
+        Err(_) => None,
+    }
 }
 
 /// The dialect and the value of a command.
