@@ -10,14 +10,15 @@ use Rattle.command_status.specs.FaultLines.{plan_line, source_line}
 use Rattle.command_status.specs.Told.{SinkTold, TellsLine, Writes}
 use Rattle.planned_traces.specs.Files.{ComesWith}
 use Rattle.pair_command.specs.Files.{PlansTold, ArePlans, ArePlanTexts, IsRefusedAt}
-use Rattle.pair_command.specs.Talking.{IsTalkLine, Talked}
+use Rattle.pair_command.specs.Talking.{IsTalkLine}
+use Rattle.pair_command.specs.Printing.{Printed}
 
 -- the plans are those of the files
 pub record HasTalked (c : Codecs) (cc : car.Codecs) (tells : Type 0) (seed : ℕ) (s : Status) (files : PlansTold) (before after : SinkTold) : Type 0 where
   pub site : SitePlan
   pub plan : CarPlan
   pub plans_are : ArePlans tells files site plan
-  pub talked : Talked c cc site plan seed s before after
+  pub talked : Printed (IsTalkLine c cc site plan seed) s before after
 
 -- the key at which a plan is refused is told
 pub record IsPlanTold (tells : Type 0) (files : PlansTold) (before after : SinkTold) : Type 0 where

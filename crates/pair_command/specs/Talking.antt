@@ -1,4 +1,4 @@
--- Own: the line of a station and a car that talk over a pipe in memory, and what printing it leaves on the output.
+-- Own: the line of a station and a car that talk over a pipe in memory.
 use Rattle.std.specs.Prelude.{◌≡◌, ℕ, List}
 use Rattle.session_words.specs.declared.plan.CarPlan.{CarPlan}
 use Rattle.session_words.specs.declared.plan.SitePlan.{SitePlan}
@@ -8,9 +8,6 @@ use Rattle.pair_plans.specs.Lines.{talk_line}
 use Rattle.pair_talk.specs.Counts.{exchanges, car_cause_number}
 use Rattle.pair_talk.specs.Runs.{IsPipeRun}
 use Rattle.pipe_spec.specs.Histories.{Happening}
-use Rattle.command_status.specs.declared.status.Status.{Status}
-use Rattle.command_status.specs.declared.status.Status.TheVariants as status
-use Rattle.command_status.specs.Told.{SinkTold, Writes, WritesFront}
 
 -- `exchanges N cause C`, of the run of the pipe that both plans and the seed determine: the replies that the car heard, and the number of the cause by
 -- which it ended, 0 where it didn't
@@ -18,16 +15,3 @@ pub record IsTalkLine (c : Codecs) (cc : car.Codecs) (site : SitePlan) (plan : C
   pub history : List Happening
   pub run : IsPipeRun c cc site plan seed history
   pub line_is : line ≡ talk_line (exchanges history) (car_cause_number history)
-
--- that line was printed so
-pub record PrintsTalk (c : Codecs) (cc : car.Codecs) (site : SitePlan) (plan : CarPlan) (seed : ℕ) (P : List ℕ → Type 0) : Type 0 where
-  pub line : List ℕ
-  pub is : IsTalkLine c cc site plan seed line
-  pub printed : P line
-
--- by the status. Of a line that couldn't be written a front was
-abbrev pub Talked : Codecs → car.Codecs → SitePlan → CarPlan → ℕ → Status → SinkTold → SinkTold → Type 0
-Talked c cc site plan seed status.Done before after = PrintsTalk c cc site plan seed (λ line. Writes line before after)
-Talked c cc site plan seed status.SinkFault before after = PrintsTalk c cc site plan seed (λ line. WritesFront line before after)
-Talked c cc site plan seed status.NoMemory before after = (after.taken ≡ before.taken) × (after.faults ≡ before.faults)
-Talked c cc site plan seed _ before after = ⊥

@@ -5,7 +5,8 @@ ghost use Rattle.session_words.specs.Plans.{IsCarPlan, IsSitePlan};
 ghost use Rattle.post_spec.specs.Codecs.{codecs};
 ghost use Rattle.car_spec.specs.Codecs as car_codecs;
 ghost use Rattle.command_status.specs.Told.{sink_told};
-ghost use Rattle.pair_command.specs.Talking.{IsTalkLine, Talked};
+ghost use Rattle.pair_command.specs.Talking.{IsTalkLine};
+ghost use Rattle.pair_command.specs.Printing.{Printed};
 
 use crate::plans::PairPlans;
 use car_codec::CarCodec;
@@ -44,8 +45,8 @@ pub(crate) fn print_talk<C: Codec + Drop, D: CarCodec + Drop, K: Sink>(
 ) -> Status
     requires station { IsSitePlan plans.now.station }
     requires car { IsCarPlan plans.now.car }
-    ensures { Talked (codecs C.negotiates C.reads C.encodes) (car_codecs.codecs D.offers D.responds D.reads D.encodes) plans.now.station plans.now.car seed result
-        (sink_told (K.taken out.old) (K.faults out.old)) (sink_told (K.taken out.new) (K.faults out.new)) }
+    ensures { Printed (IsTalkLine (codecs C.negotiates C.reads C.encodes) (car_codecs.codecs D.offers D.responds D.reads D.encodes)
+        plans.now.station plans.now.car seed) result (sink_told (K.taken out.old) (K.faults out.old)) (sink_told (K.taken out.new) (K.faults out.new)) }
 {
     match line_of(alloc, codec, car_codec, plans, seed) {
         Ok(line) => print_line(out, line.as_str().as_bytes(), Status::Done),
