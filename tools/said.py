@@ -46,7 +46,7 @@ def row(name, words, status, line, *said, files=(), **how):
             expect(name, text in err, f"standard error lacks {text!r}: {err!r}")
 
 
-COMMANDS = ["station PLAN", "car PLAN", "replay PLAN TRACE", "audit PLAN TRACE", "decode DIALECT HEX", "encode DIALECT TEXT", "basic SCRIPT", "migrate TRACE", "offer CALENDAR MOMENT", "schedule NEED HEX", "services CATALOGUE ID", "pick WANT HEX"]
+COMMANDS = ["station PLAN", "car PLAN", "replay PLAN TRACE", "audit PLAN TRACE", "talk STATION CAR SEED", "decode DIALECT HEX", "encode DIALECT TEXT", "basic SCRIPT", "migrate TRACE", "offer CALENDAR MOMENT", "schedule NEED HEX", "services CATALOGUE ID", "pick WANT HEX"]
 
 
 def misused_words():
@@ -60,6 +60,7 @@ def misused_words():
     row("no dialect", ["decode", "xml", "00"], 2, "words\n", "`xml` is no DIALECT: write app, iso or din")
     row("no moment", ["offer", "c", "86400"], 2, "words\n", "`86400` is no MOMENT", "0 to 86399")
     row("no identifier", ["services", "c", "65536"], 2, "words\n", "`65536` is no ID", "0 to 65535")
+    row("no seed", ["talk", "s", "c", "01"], 2, "words\n", "`01` is no SEED", "0 to 18446744073709551615")
     row("no want", ["pick", "Port", "00"], 2, "words\n", "`Port` is no WANT", "NAME=VALUE")
     row("an option", ["station", "-v"], 2, "words\n", "`-v` begins with a dash")
 
@@ -82,6 +83,10 @@ def refused_plans():
     plan("a car's plan", "soc = 101\ntcp = 15120\n", "soc", "soc must be 0 to 100", "the number 101", command="car")
     plan("a need without its energy", "", "energy", "A need has `energy`", command=["schedule", "80"])
     plan("a car without a port", "", "tcp", "tcp is missing, and must be 1 to 65535", command="car")
+
+    both = {"s": "[[post]]\ntcp = 15120\n", "c": "soc = 101\ntcp = 15120\n"}
+    row("the second of two plans", ["talk", "s", "c", "1"], 3, "plan soc\n", "The plan c is refused: soc must be 0 to 100", files=both)
+    row("the first of two plans", ["talk", "c", "c", "1"], 3, "plan post\n", "The plan c is refused: post is missing", files=both)
 
 
 TREE = "supportedAppProtocolRes{ResponseCode=OK_SuccessfulNegotiation SchemaID=1}"

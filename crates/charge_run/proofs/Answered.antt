@@ -3,13 +3,15 @@ use Rattle.std.proofs.Common.{◌≡◌, ℕ, List, Option, Some, None, Ok, refl
 use Rattle.message_dialects.specs.declared.dialect.MessageDialect.{MessageDialect}
 use Rattle.message_trees.specs.Texts.{IsRefusedIn, IsUnscanned}
 use Rattle.message_trees.proofs.Decided.{apart, scanned_apart}
-use Rattle.charge_run.specs.Runs.{Answers, Decodes, IsDecodedLine, IsDecodeFault, Encodes, IsEncodedLine}
+use Rattle.charge_run.specs.Runs.{site_codecs, car_codecs, Answers, Decodes, IsDecodedLine, IsDecodeFault, Encodes, IsEncodedLine}
 use Rattle.command_status.specs.declared.status.Status.{Status}
 use Rattle.command_status.specs.declared.status.Status.TheVariants as status
 use Rattle.command_status.specs.Told.{SinkTold, file_told}
 use Rattle.planned_traces.specs.Files.{files_told}
 use Rattle.audit_command.specs.Own.{PassesOwn}
 use Rattle.own_codecs.specs.Codecs.{charge_codecs}
+use Rattle.pair_command.specs.Files.{plans_told}
+use Rattle.pair_command.specs.Leaving.{TalkLeaves}
 use Rattle.file_commands.specs.Offering.{OfferLeaves}
 use Rattle.payload_commands.specs.Detailing.{ServicesLeave}
 use Rattle.payload_commands.specs.Picking.{PickLeaves, WantsNothing}
@@ -61,6 +63,14 @@ pub same_owned : (holds : List ℕ → Option (List ℕ)) (tells : Type 0) (a b 
 same_owned holds tells a b p q same s k l before after h =
     subst (λ (x : List ℕ). PassesOwn charge_codecs tells s (files_told (holds b) (holds x) k l) before after) same.1
     (subst (λ (x : List ℕ). PassesOwn charge_codecs tells s (files_told (holds x) (holds p) k l) before after) same.0 h)
+
+pub same_talked : (holds : List ℕ → Option (List ℕ)) (tells : Type 0) (a b p q : List ℕ) (m n : ℕ) → (a ≡ b) × (p ≡ q) × (m ≡ n) → (s : Status) (k l : ℕ) (before after : SinkTold)
+    → TalkLeaves site_codecs car_codecs tells m s (plans_told (holds a) (holds p) k l) before after
+    → TalkLeaves site_codecs car_codecs tells n s (plans_told (holds b) (holds q) k l) before after
+same_talked holds tells a b p q m n same s k l before after h =
+    subst (λ (x : ℕ). TalkLeaves site_codecs car_codecs tells x s (plans_told (holds b) (holds q) k l) before after) same.2
+    (subst (λ (x : List ℕ). TalkLeaves site_codecs car_codecs tells m s (plans_told (holds b) (holds x) k l) before after) same.1
+    (subst (λ (x : List ℕ). TalkLeaves site_codecs car_codecs tells m s (plans_told (holds x) (holds p) k l) before after) same.0 h))
 
 pub same_offered : (holds : List ℕ → Option (List ℕ)) (m n : ℕ) (a b : List ℕ) → (a ≡ b) × (m ≡ n) → (s : Status) (left : Option (List ℕ)) (k l : ℕ) (before after : SinkTold) →
     OfferLeaves m s (file_told (holds a) left k l) before after → OfferLeaves n s (file_told (holds b) left k l) before after

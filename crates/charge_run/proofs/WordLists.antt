@@ -1,7 +1,7 @@
 -- The words of a command.
 use Rattle.std.proofs.Common.{◌≡◌, ℕ, List}
 use Rattle.message_dialects.specs.declared.dialect.MessageDialect.{MessageDialect}
-use Rattle.command_words.specs.Command.{IsAudit, IsDecode, IsEncode, IsOffer, IsPick, IsServices, audit, decode, encode, offer, pick, services}
+use Rattle.command_words.specs.Command.{IsAudit, IsDecode, IsEncode, IsOffer, IsPick, IsServices, IsTalk, audit, decode, encode, offer, pick, services, talk}
 use Rattle.command_words.proofs.Told.{one_asked}
 
 same_decode : (d e : MessageDialect) (a b : List ℕ) → decode d a ≡ decode e b → (d ≡ e) × (a ≡ b)
@@ -12,6 +12,9 @@ same_encode d e a b h = (cc, cc)
 
 same_audit : (a b p q : List ℕ) → audit a p ≡ audit b q → (a ≡ b) × (p ≡ q)
 same_audit a b p q h = (cc, cc)
+
+same_talk : (a b p q : List ℕ) (m n : ℕ) → talk a p m ≡ talk b q n → (a ≡ b) × (p ≡ q) × (m ≡ n)
+same_talk a b p q m n h = (cc, cc, cc)
 
 same_offer : (m n : ℕ) (a b : List ℕ) → offer a m ≡ offer b n → (a ≡ b) × (m ≡ n)
 same_offer m n a b h = (cc, cc)
@@ -32,6 +35,10 @@ one_encode words d e a b h k = same_encode d e a b (one_asked words (encode d a)
 -- and one plan and one trace
 pub one_audit : (words : List (List ℕ)) (a b p q : List ℕ) → IsAudit words a p → IsAudit words b q → (a ≡ b) × (p ≡ q)
 one_audit words a b p q h k = same_audit a b p q (one_asked words (audit a p) (audit b q) h k)
+
+-- and two plans and one seed
+pub one_talk : (words : List (List ℕ)) (a b p q : List ℕ) (m n : ℕ) → IsTalk words a p m → IsTalk words b q n → (a ≡ b) × (p ≡ q) × (m ≡ n)
+one_talk words a b p q m n h k = same_talk a b p q m n (one_asked words (talk a p m) (talk b q n) h k)
 
 -- and one file and one moment
 pub one_offer : (words : List (List ℕ)) (m n : ℕ) (a b : List ℕ) → IsOffer words a m → IsOffer words b n → (a ≡ b) × (m ≡ n)

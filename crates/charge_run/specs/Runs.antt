@@ -15,7 +15,7 @@ use Rattle.message_trees.specs.Texts.{IsPrinted, IsRefusedIn, IsScanned, IsUnsca
 use Rattle.command_status.specs.declared.status.Status.{Status}
 use Rattle.command_status.specs.declared.status.Status.TheVariants as status
 use Rattle.command_status.specs.FaultLines.{Tells, input_line}
-use Rattle.command_words.specs.Command.{IsAudit, IsBasic, IsCar, IsMigrate, IsOffer, IsPick, IsReplay, IsSchedule, IsServices, IsStation}
+use Rattle.command_words.specs.Command.{IsAudit, IsBasic, IsCar, IsMigrate, IsOffer, IsPick, IsReplay, IsSchedule, IsServices, IsStation, IsTalk}
 use Rattle.payload_commands.specs.Picking.{WantsNothing as SpellsNothing}
 use Rattle.hex_payloads.specs.HexText.{hex_fault, IsHexOf}
 use Rattle.hex_payloads.specs.declared.hex_text.HexFault.{HexFault}
@@ -43,6 +43,9 @@ IsSomeReplay words = (plan : List ℕ) × (trace : List ℕ) × IsReplay words p
 
 abbrev pub IsSomeAudit : List (List ℕ) → Type 0
 IsSomeAudit words = (plan : List ℕ) × (trace : List ℕ) × IsAudit words plan trace
+
+abbrev pub IsSomeTalk : List (List ℕ) → Type 0
+IsSomeTalk words = (station : List ℕ) × (vehicle : List ℕ) × (seed : ℕ) × IsTalk words station vehicle seed
 
 abbrev pub IsSomeBasic : List (List ℕ) → Type 0
 IsSomeBasic words = (script : List ℕ) × IsBasic words script
@@ -72,7 +75,7 @@ UsesWire words = IsSomeStation words ⊎ IsSomeCar words
 
 -- the commands that read a plan, a calendar, a need or a catalogue
 abbrev pub ReadsPlan : List (List ℕ) → Type 0
-ReadsPlan words = UsesWire words ⊎ IsSomeReplay words ⊎ IsSomeOffer words ⊎ IsSomeSchedule words ⊎ IsSomeServices words ⊎ IsSomeAudit words
+ReadsPlan words = UsesWire words ⊎ IsSomeReplay words ⊎ IsSomeOffer words ⊎ IsSomeSchedule words ⊎ IsSomeServices words ⊎ IsSomeAudit words ⊎ IsSomeTalk words
 
 -- the commands that write a trace
 abbrev pub WritesTrace : List (List ℕ) → Type 0

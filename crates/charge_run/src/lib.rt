@@ -12,6 +12,7 @@ mod encode;
 mod fault;
 mod replaying;
 mod serving;
+mod talking;
 mod top;
 
 pub use audit_command::Fault;

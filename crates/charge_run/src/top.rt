@@ -3,7 +3,7 @@
 ghost use Rattle.std.specs.Prelude.{◌≡◌, ◌<◌, ◌⊎◌, ℕ, List, [], ◌∷◌};
 ghost use Rattle.message_dialects.specs.declared.dialect.MessageDialect.{MessageDialect as OfDialect};
 ghost use Rattle.message_trees.specs.Texts.{IsUnscanned};
-ghost use Rattle.command_words.specs.Command.{IsNoCommand, IsStation, IsCar, IsReplay, IsAudit, IsDecode, IsEncode, IsBasic, IsMigrate, IsOffer, IsSchedule, IsServices, IsPick};
+ghost use Rattle.command_words.specs.Command.{IsNoCommand, IsStation, IsCar, IsReplay, IsAudit, IsTalk, IsDecode, IsEncode, IsBasic, IsMigrate, IsOffer, IsSchedule, IsServices, IsPick};
 ghost use Rattle.command_status.specs.Completeness.{NoneRose};
 ghost use Rattle.command_status.specs.FaultLines.{Tells, words_line};
 ghost use Rattle.command_status.specs.Told.{file_told, sink_told, TellsAlways};
@@ -13,6 +13,8 @@ ghost use Rattle.replay_command.specs.Replays.{ReplayLeaves};
 ghost use Rattle.audit_command.specs.Leaving.{AuditLeaves};
 ghost use Rattle.audit_command.specs.Own.{PassesOwn};
 ghost use Rattle.own_codecs.specs.Codecs.{charge_codecs};
+ghost use Rattle.pair_command.specs.Files.{plans_told};
+ghost use Rattle.pair_command.specs.Leaving.{TalkLeaves};
 ghost use Rattle.charge_run.specs.Cars.{CarLeaves};
 ghost use Rattle.file_commands.specs.Basics.{BasicLeaves};
 ghost use Rattle.migrate_command.specs.Leaving.{MigrateLeaves};
@@ -31,6 +33,7 @@ use crate::driving::drive;
 use crate::encode::encode;
 use crate::replaying::replay_trace;
 use crate::serving::serve;
+use crate::talking::talk_pair;
 use charge_world::{Sink, Source, Wire};
 use command_status::{Status, tell_fault};
 use command_words::{Command, WordList, WordsFault, read_words};
@@ -51,6 +54,9 @@ use std::alloc::Global;
 ///   trace has, and how the run ended.
 /// - `audit PLAN TRACE` judges the trace in one file by itself, whoever wrote it, for the plan in another, and prints `audit ok lines N`, how many lines it
 ///   has, or `audit no line N check C`, the first of ten checks that fails, and at which line.
+/// - `talk STATION CAR SEED` lets the station of the plan in one file, whose first post is used alone, and the car of the plan in another, whose ports are
+///   ignored, talk over a pipe in memory, and prints `exchanges N cause C`: how many replies the car heard, and the number of the cause that ended it, 0
+///   without one. The seed, a number below 2^64, says in which pieces the bytes come.
 /// - `decode DIALECT HEX` prints the tree text of the message that a payload spells. DIALECT is `app` for the negotiation, `iso` for
 ///   ISO 15118-2 or `din` for DIN SPEC 70121.
 /// - `encode DIALECT TEXT` prints the payload that is written for the message whose tree text this is, in hexadecimal digits.
@@ -86,6 +92,10 @@ use std::alloc::Global;
 /// `audit`: `Done` where no check fails: then the contactors of that trace were closed only as mandated and opened by what ended a session, and its watts
 /// stayed within the limit (`IsSafe` and `IsWithin` of `told_pasts`). `AuditNo` where one fails: none does in a trace of at most 256 MiB that a station wrote
 /// whole by that plan. Before that comes what comes for `replay`. The trace and the wire stay as they were.
+///
+/// `talk`: `Done` where the line was written, which is that of the run of the pipe that both plans and the seed determine (`IsPipeRun` of `pipe_spec`).
+/// Before that come `NoMemory`, `SourceFault` where a file can't be read, and `Plan` where the first is no plan of a station or the second none of a car.
+/// The trace and the wire stay as they were.
 ///
 /// `decode`: `Input` where the text spells no bytes or the payload no message. `encode`: `Input` where no payload is written for the
 /// text. Neither uses a file, the trace or the wire.
@@ -154,6 +164,12 @@ pub fn run<F: Source, K: Sink, J: Sink, W: Wire>(
         (files_told (F.holds files.old plan) (F.holds files.old recorded) (F.faults files.old) (F.faults files.new))
         (sink_told (K.taken out.old) (K.faults out.old)) (sink_told (K.taken out.new) (K.faults out.new)) }
 
+    // `talk`: the line is that of the run of the pipe that the plans in the files and the seed determine, or the files' fault is told.
+    ensures talk { (station : List ℕ) (car : List ℕ) (seed : ℕ) → IsTalk words.now station car seed
+        → TalkLeaves site_codecs car_codecs (TellsAlways F.left) seed result
+        (plans_told (F.holds files.old station) (F.holds files.old car) (F.faults files.old) (F.faults files.new))
+        (sink_told (K.taken out.old) (K.faults out.old)) (sink_told (K.taken out.new) (K.faults out.new)) }
+
     // `basic`: the lines are those of the orders of a run over the script in the file, or its fault is told.
     ensures basic { (name : List ℕ) → IsBasic words.now name
         → BasicLeaves result (file_told (F.holds files.old name) (F.left files.new) (F.faults files.old) (F.faults files.new))
@@ -184,7 +200,7 @@ pub fn run<F: Source, K: Sink, J: Sink, W: Wire>(
     ensures pick { (want : List ℕ) (payload : List ℕ) → IsPick words.now want payload
         → PickLeaves result want payload (sink_told (K.taken out.old) (K.faults out.old)) (sink_told (K.taken out.new) (K.faults out.new)) }
 
-    // Only the first four, `offer`, `schedule` and `services` read a plan or a file of keys, and only they, `basic` and `migrate` read files.
+    // Only the first five, `offer`, `schedule` and `services` read a plan or a file of keys, and only they, `basic` and `migrate` read files.
     ensures plan { result ≡ Status.Plan → ReadsPlan words.now }
     ensures source { result ≡ Status.SourceFault → ReadsFiles words.now }
 
@@ -250,6 +266,9 @@ pub fn run<F: Source, K: Sink, J: Sink, W: Wire>(
                 trace: recorded,
             },
         ) => { audit_trace(alloc, plan, recorded, files, out) }
+        Ok(Command::Talk { station, car, seed }) => talk_pair(
+            alloc, station, car, seed, files, out,
+        ),
         Ok(Command::Decode { dialect, hex }) => decode(alloc, dialect, hex, out),
         Ok(Command::Encode { dialect, text }) => encode(alloc, dialect, text, out),
         Ok(Command::Basic { script }) => basic(alloc, script, files, out),

@@ -13,7 +13,7 @@ use Rattle.clap.proofs.OnLiterals.{clap_on_literals}
 use Rattle.command_words.specs.Command.{is_plain}
 use Rattle.command_words.specs.Grammar.{count_of, given_rows, program_of, shape}
 use Rattle.command_words.specs.declared.forms.Values.{Values}
-use Rattle.command_words.specs.declared.forms.Values.TheVariants.{One, Two}
+use Rattle.command_words.specs.declared.forms.Values.TheVariants.{One, Two, Three}
 
 -- a word that is read as no option
 pub record IsNoOption (word : Text) : Type 0 where
@@ -85,6 +85,34 @@ two_more : (name d v w : Text) (rest : List Text) → IsNoOption d → IsNoOptio
 unfolding clap_on_literals
 two_more name d v w rest h k l = rw (h.no_dashes, h.not_long, h.not_short, k.no_dashes, k.not_long, k.not_short, l.no_dashes, l.not_long, l.not_short) refl
 
+-- ---- three values
+
+three_passes : (name a b v : Text) → IsNoOption a → IsNoOption b → IsNoOption v → fault_below (shape name Three) (a ∷ b ∷ v ∷ []) ≡ []
+unfolding clap_on_literals
+three_passes name a b v h k l = rw (h.no_dashes, h.not_long, h.not_short, k.no_dashes, k.not_long, k.not_short, l.no_dashes, l.not_long, l.not_short) refl
+
+three_rows : (name a b v : Text) → IsNoOption a → IsNoOption b → IsNoOption v → rows_below (shape name Three) (a ∷ b ∷ v ∷ []) ≡ given_rows (a ∷ b ∷ v ∷ [])
+unfolding clap_on_literals
+three_rows name a b v h k l = rw (h.no_dashes, h.not_long, h.not_short, k.no_dashes, k.not_long, k.not_short, l.no_dashes, l.not_long, l.not_short) refl
+
+three_none : (name : Text) → fault_below (shape name Three) [] ≡ MissingRequiredArgument ∷ []
+unfolding clap_on_literals
+three_none name = refl
+
+three_one : (name a : Text) → IsNoOption a → fault_below (shape name Three) (a ∷ []) ≡ MissingRequiredArgument ∷ []
+unfolding clap_on_literals
+three_one name a h = rw (h.no_dashes, h.not_long, h.not_short) refl
+
+three_two : (name a b : Text) → IsNoOption a → IsNoOption b → fault_below (shape name Three) (a ∷ b ∷ []) ≡ MissingRequiredArgument ∷ []
+unfolding clap_on_literals
+three_two name a b h k = rw (h.no_dashes, h.not_long, h.not_short, k.no_dashes, k.not_long, k.not_short) refl
+
+three_more : (name a b v w : Text) (rest : List Text) → IsNoOption a → IsNoOption b → IsNoOption v → IsNoOption w
+    → fault_below (shape name Three) (a ∷ b ∷ v ∷ w ∷ rest) ≡ UnknownArgument ∷ []
+unfolding clap_on_literals
+three_more name a b v w rest h k l m =
+    rw (h.no_dashes, h.not_long, h.not_short, k.no_dashes, k.not_long, k.not_short, l.no_dashes, l.not_long, l.not_short, m.no_dashes, m.not_long, m.not_short) refl
+
 -- ---- as many as it has
 
 -- they are as many, and found
@@ -116,6 +144,18 @@ one_is_two e = omega (arith, e)
 more_is_two : (d v w : Text) (rest : List Text) → length (d ∷ v ∷ w ∷ rest) ≡ 2 → ⊥
 more_is_two d v w rest e = omega (arith, e)
 
+none_is_three : ◌≡◌ {A = ℕ} 0 3 → ⊥
+none_is_three e = omega (arith, e)
+
+one_is_three : ◌≡◌ {A = ℕ} 1 3 → ⊥
+one_is_three e = omega (arith, e)
+
+two_is_three : ◌≡◌ {A = ℕ} 2 3 → ⊥
+two_is_three e = omega (arith, e)
+
+more_is_three : (a b v w : Text) (rest : List Text) → length (a ∷ b ∷ v ∷ w ∷ rest) ≡ 3 → ⊥
+more_is_three a b v w rest e = omega (arith, e)
+
 pub judged : (name : Text) (v : Values) (values : List Text) → AllByRecursion IsNoOption values → Judged name v values
 judged name One [] h = inr (record { other = none_is_one; fault = faulty _ _ (one_none name) tt })
 judged name One (v ∷ []) h = inl (record { many = refl; passes = one_passes name v h.0; rows = one_rows name v h.0 })
@@ -125,3 +165,10 @@ judged name Two (d ∷ []) h = inr (record { other = one_is_two; fault = faulty 
 judged name Two (d ∷ v ∷ []) h = inl (record { many = refl; passes = two_passes name d v h.0 h.1.0; rows = two_rows name d v h.0 h.1.0 })
 judged name Two (d ∷ v ∷ w ∷ rest) h =
     inr (record { other = more_is_two d v w rest; fault = faulty _ _ (two_more name d v w rest h.0 h.1.0 h.1.1.0) tt })
+judged name Three [] h = inr (record { other = none_is_three; fault = faulty _ _ (three_none name) tt })
+judged name Three (a ∷ []) h = inr (record { other = one_is_three; fault = faulty _ _ (three_one name a h.0) tt })
+judged name Three (a ∷ b ∷ []) h = inr (record { other = two_is_three; fault = faulty _ _ (three_two name a b h.0 h.1.0) tt })
+judged name Three (a ∷ b ∷ v ∷ []) h =
+    inl (record { many = refl; passes = three_passes name a b v h.0 h.1.0 h.1.1.0; rows = three_rows name a b v h.0 h.1.0 h.1.1.0 })
+judged name Three (a ∷ b ∷ v ∷ w ∷ rest) h =
+    inr (record { other = more_is_three a b v w rest; fault = faulty _ _ (three_more name a b v w rest h.0 h.1.0 h.1.1.0 h.1.1.1.0) tt })

@@ -15,8 +15,8 @@ use Rattle.clap.specs.declared.parser.matches.SubCommand.{SubCommand}
 use Rattle.clap.specs.declared.parser.matches.ArgMatches.TheViews.{out-SubCommand}
 use Rattle.message_dialects.specs.declared.dialect.MessageDialect.{MessageDialect}
 use Rattle.message_dialects.specs.declared.dialect.MessageDialect.TheVariants.{App, Iso, Din}
-use Rattle.command_words.specs.Command.{Asked, Asks, HasWordsFault, IsCommand, IsNoCommand, asked_of, audit, basic, car, decode, dialect_named, dialect_word, day, encode, is_plain, IsWithin, migrate, offer, pick, replay, schedule, services, shorts, station, words_of}
-use Rattle.command_words.specs.Grammar.{Form, IsMatched, IsTaken, IsUnmatched, count_of, forms, given_rows, is_number, named, number_named, on_dialect, told, told_of, with_number, with_one, with_two}
+use Rattle.command_words.specs.Command.{Asked, Asks, HasWordsFault, IsCommand, IsNoCommand, asked_of, audit, basic, car, decode, dialect_named, dialect_word, day, encode, is_plain, IsWithin, migrate, offer, pick, replay, schedule, seeds, services, shorts, station, talk, words_of}
+use Rattle.command_words.specs.Grammar.{Form, IsMatched, IsTaken, IsUnmatched, count_of, forms, given_rows, is_number, named, number_named, on_dialect, told, told_of, with_number, with_one, with_seed, with_two}
 use Rattle.command_words.specs.declared.reading.Command.{Command}
 use Rattle.command_words.specs.declared.reading.WordsFault.TheVariants.{NoCommand}
 
@@ -49,6 +49,9 @@ day_fits = omega arith
 
 shorts_fit : Fits shorts
 shorts_fit = omega arith
+
+pub seeds_fit : Fits seeds
+seeds_fit = omega arith
 
 value_is : (bound n : ℕ) → Fits bound → n < bound → digits_value 10 (decimal n) ≡ n
 value_is bound n fits less = (decimal_is_IsNumeral n (omega (arith, fits, less))).1
@@ -105,6 +108,13 @@ read (station plan) within = record { name = codes "station"; values = plan ∷ 
 read (car plan) within = record { name = codes "car"; values = plan ∷ []; words_are = refl; taken = refl; told_is = refl }
 read (replay plan trace) within = record { name = codes "replay"; values = plan ∷ trace ∷ []; words_are = refl; taken = refl; told_is = refl }
 read (audit plan trace) within = record { name = codes "audit"; values = plan ∷ trace ∷ []; words_are = refl; taken = refl; told_is = refl }
+read (talk site vehicle seed) within = record {
+  name = codes "talk";
+  values = site ∷ vehicle ∷ decimal seed ∷ [];
+  words_are = refl;
+  taken = refl;
+  told_is = ap (λ (n : Option ℕ). option_map (λ (found : Text × Text × ℕ). talk found.0 found.1 found.2) (option_map (λ (number : ℕ). (site, vehicle, number)) n)) (number_is seeds seed seeds_fit within);
+}
 read (decode App hex) within = record { name = codes "decode"; values = codes "app" ∷ hex ∷ []; words_are = refl; taken = refl; told_is = refl }
 read (decode Iso hex) within = record { name = codes "decode"; values = codes "iso" ∷ hex ∷ []; words_are = refl; taken = refl; told_is = refl }
 read (decode Din hex) within = record { name = codes "decode"; values = codes "din" ∷ hex ∷ []; words_are = refl; taken = refl; told_is = refl }
@@ -178,6 +188,20 @@ makes_number name bound make is (a ∷ b ∷ []) asked many says = go (number_na
         said_by _ (make a n) asked e (subst (λ (w : Text). Says (name ∷ a ∷ w ∷ []) (make a n)) (sym number.0) (is a n number.1))
 makes_number name bound make is (a ∷ b ∷ c ∷ rest) asked many says = absurd (omega (arith, many))
 
+makes_seed : (name : Text) (make : Text → Text → ℕ → Asked) → ((a b : Text) (n : ℕ) → n < seeds → Says (name ∷ a ∷ b ∷ decimal n ∷ []) (make a b n)) → MakesWords (with_seed name make)
+makes_seed name make is [] asked many says = absurd (omega (arith, many))
+makes_seed name make is (a ∷ []) asked many says = absurd (omega (arith, many))
+makes_seed name make is (a ∷ b ∷ []) asked many says = absurd (omega (arith, many))
+makes_seed name make is (a ∷ b ∷ c ∷ []) asked many says = go (number_named seeds c) refl says
+  where
+    go : (found : Option ℕ) → number_named seeds c ≡ found → option_map (λ (found : Text × Text × ℕ). make found.0 found.1 found.2) (option_map (λ (number : ℕ). (a, b, number)) found) ≡ Some asked
+        → Says (name ∷ a ∷ b ∷ c ∷ []) asked
+    go None is_none e = let bad : None ≡ Some asked = e in absurd cc
+    go (Some n) found e =
+        let number = number_of seeds c n found in
+        said_by _ (make a b n) asked e (subst (λ (w : Text). Says (name ∷ a ∷ b ∷ w ∷ []) (make a b n)) (sym number.0) (is a b n number.1))
+makes_seed name make is (a ∷ b ∷ c ∷ d ∷ rest) asked many says = absurd (omega (arith, many))
+
 named_word : (word : Text) (dialect : MessageDialect) → dialect_named word ≡ Some dialect → word ≡ dialect_word dialect
 named_word word dialect h = go (bytes_eq word (dialect_word App)) (bytes_eq word (dialect_word Iso)) (bytes_eq word (dialect_word Din)) refl refl refl h
   where
@@ -213,16 +237,19 @@ all_make = (
       (
         makes_two _ _ (λ a b. (refl, tt)),
         (
-          makes_dialect _ _ (λ d b. (refl, tt)),
+          makes_seed _ _ (λ a b n less. (refl, less)),
           (
             makes_dialect _ _ (λ d b. (refl, tt)),
             (
-              makes_one _ _ (λ a. (refl, tt)),
+              makes_dialect _ _ (λ d b. (refl, tt)),
               (
                 makes_one _ _ (λ a. (refl, tt)),
                 (
-                  makes_number _ _ _ (λ a n less. (refl, less)),
-                  (makes_two _ _ (λ a b. (refl, tt)), (makes_number _ _ _ (λ a n less. (refl, less)), (makes_two _ _ (λ a b. (refl, tt)), tt))),
+                  makes_one _ _ (λ a. (refl, tt)),
+                  (
+                    makes_number _ _ _ (λ a n less. (refl, less)),
+                    (makes_two _ _ (λ a b. (refl, tt)), (makes_number _ _ _ (λ a n less. (refl, less)), (makes_two _ _ (λ a b. (refl, tt)), tt))),
+                  ),
                 ),
               ),
             ),

@@ -1,11 +1,11 @@
 -- Own: the words of the program's commands. A word that begins with `-` is in none.
-use Rattle.std.specs.Prelude.{◌≡◌, ◌==◌, ◌<◌, ℕ, Bool, not, true, if◌then◌else◌, List, [], ◌∷◌, Option, Some, None, codes, decimal}
+use Rattle.std.specs.Prelude.{◌≡◌, ◌==◌, ◌<◌, ◌^◌, ℕ, Bool, not, true, if◌then◌else◌, List, [], ◌∷◌, Option, Some, None, codes, decimal}
 use Rattle.std.specs.List.{list_all}
 use Rattle.std.specs.Str.{bytes_eq}
 use Rattle.message_dialects.specs.declared.dialect.MessageDialect.{MessageDialect}
 use Rattle.message_dialects.specs.declared.dialect.MessageDialect.TheVariants.{App, Iso, Din}
 use Rattle.command_words.specs.declared.reading.Command.{Command}
-use Rattle.command_words.specs.declared.reading.Command.TheVariants.{Station, Car, Replay, Audit, Decode, Encode, Basic, Migrate, Offer, Schedule, Services, Pick}
+use Rattle.command_words.specs.declared.reading.Command.TheVariants.{Station, Car, Replay, Audit, Talk, Decode, Encode, Basic, Migrate, Offer, Schedule, Services, Pick}
 use Rattle.command_words.specs.declared.reading.WordsFault.{WordsFault}
 use Rattle.command_words.specs.declared.reading.WordsFault.TheVariants.{NoCommand, Memory}
 
@@ -29,8 +29,9 @@ dialect_named word =
     else None
 
 -- what may be asked for: to serve the posts of the plan in a file; to drive a car by the plan in a file; to run the posts of the plan in a file
--- over the hearings of the trace in another; to judge the trace in one file for the plan in another; the tree text of a payload of a dialect; the payload of a tree text of a dialect; the orders
--- for the script in a file; to carry the trace of an earlier format in a file over; what is offered for the day from a moment on by the calendar
+-- over the hearings of the trace in another; to judge the trace in one file for the plan in another; that the station of the plan in one file and the
+-- car of the plan in another talk over a pipe in memory, by a seed; the tree text of a payload of a dialect; the payload of a tree text of a dialect;
+-- the orders for the script in a file; to carry the trace of an earlier format in a file over; what is offered for the day from a moment on by the calendar
 -- in a file; the charging profile for the need in a file within the schedules of a payload; the payload of the reply for a service of the catalogue
 -- in a file; and which set of the parameters of a payload is picked by what is wanted
 pub data Asked : Type 0 where
@@ -38,6 +39,7 @@ pub data Asked : Type 0 where
   car : (plan : List ℕ) → Asked
   replay : (plan trace : List ℕ) → Asked
   audit : (plan trace : List ℕ) → Asked
+  talk : (station_plan car_plan : List ℕ) (seed : ℕ) → Asked
   decode : (dialect : MessageDialect) (hex : List ℕ) → Asked
   encode : (dialect : MessageDialect) (text : List ℕ) → Asked
   basic : (script : List ℕ) → Asked
@@ -53,6 +55,7 @@ words_of (station plan) = codes "station" ∷ plan ∷ []
 words_of (car plan) = codes "car" ∷ plan ∷ []
 words_of (replay plan trace) = codes "replay" ∷ plan ∷ trace ∷ []
 words_of (audit plan trace) = codes "audit" ∷ plan ∷ trace ∷ []
+words_of (talk site vehicle seed) = codes "talk" ∷ site ∷ vehicle ∷ decimal seed ∷ []
 words_of (decode dialect hex) = codes "decode" ∷ dialect_word dialect ∷ hex ∷ []
 words_of (encode dialect text) = codes "encode" ∷ dialect_word dialect ∷ text ∷ []
 words_of (basic script) = codes "basic" ∷ script ∷ []
@@ -70,8 +73,13 @@ day = 86400
 abbrev pub shorts : ℕ
 shorts = 65536
 
--- a number is within its bounds: a moment is a second of a day, an identifier has 16 bits
+-- there are so many seeds
+abbrev pub seeds : ℕ
+seeds = 2 ^ 64
+
+-- a number is within its bounds: a seed has 64 bits, a moment is a second of a day, an identifier has 16 bits
 abbrev pub IsWithin : Asked → Type 0
+IsWithin (talk site vehicle seed) = seed < seeds
 IsWithin (offer calendar moment) = moment < day
 IsWithin (services catalogue id) = id < shorts
 IsWithin _ = Unit {0}
@@ -93,6 +101,9 @@ IsReplay words plan trace = Asks words (replay plan trace)
 
 abbrev pub IsAudit : List (List ℕ) → List ℕ → List ℕ → Type 0
 IsAudit words plan trace = Asks words (audit plan trace)
+
+abbrev pub IsTalk : List (List ℕ) → List ℕ → List ℕ → ℕ → Type 0
+IsTalk words site vehicle seed = Asks words (talk site vehicle seed)
 
 abbrev pub IsDecode : List (List ℕ) → MessageDialect → List ℕ → Type 0
 IsDecode words dialect hex = Asks words (decode dialect hex)
@@ -126,6 +137,7 @@ asked_of (Station plan) = station plan.now
 asked_of (Car plan) = car plan.now
 asked_of (Replay plan trace) = replay plan.now trace.now
 asked_of (Audit plan trace) = audit plan.now trace.now
+asked_of (Talk site vehicle seed) = talk site.now vehicle.now seed
 asked_of (Decode dialect hex) = decode dialect hex.now
 asked_of (Encode dialect text) = encode dialect text.now
 asked_of (Basic script) = basic script.now

@@ -7,9 +7,9 @@ use Rattle.clap.specs.Simple.{App, Shape, new_rule, new_shape}
 use Rattle.clap.specs.declared.builder.value_parser.Reading.TheVariants.{AsWritten}
 use Rattle.clap.specs.declared.parser.matches.ValueSource.TheVariants.{CommandLine}
 use Rattle.message_dialects.specs.declared.dialect.MessageDialect.{MessageDialect}
-use Rattle.command_words.specs.Command.{Asked, station, car, replay, audit, decode, encode, basic, migrate, offer, schedule, services, pick, day, shorts, dialect_named}
+use Rattle.command_words.specs.Command.{Asked, station, car, replay, audit, talk, decode, encode, basic, migrate, offer, schedule, services, pick, day, shorts, seeds, dialect_named}
 use Rattle.command_words.specs.declared.forms.Values.{Values}
-use Rattle.command_words.specs.declared.forms.Values.TheVariants.{One, Two}
+use Rattle.command_words.specs.declared.forms.Values.TheVariants.{One, Two, Three}
 
 -- the ids of a command's values; the program shows none of them
 abbrev pub first_id : Text
@@ -18,11 +18,17 @@ first_id = codes "FIRST"
 abbrev pub second_id : Text
 second_id = codes "SECOND"
 
+abbrev pub third_id : Text
+third_id = codes "THIRD"
+
 abbrev pub first : List Row → Option Text
 first rows = first_of first_id rows
 
 abbrev pub second : List Row → Option Text
 second rows = first_of second_id rows
+
+abbrev pub third : List Row → Option Text
+third rows = first_of third_id rows
 
 abbrev pub both : List Row → Option (Text × Text)
 both rows = option_and_then (λ one. option_map (λ other. (one, other)) (second rows)) (first rows)
@@ -43,6 +49,15 @@ number_named bound word = if is_number bound word (digits_value 10 word) then So
 abbrev pub value_and_number : ℕ → List Row → Option (Text × ℕ)
 value_and_number bound rows =
     option_and_then (λ value. option_map (λ number. (value, number)) (option_and_then (number_named bound) (second rows))) (first rows)
+
+-- the seed that a word is
+abbrev pub seed_named : Text → Option ℕ
+seed_named word = number_named seeds word
+
+-- the first two, and the seed that the third is
+abbrev pub both_and_seed : List Row → Option (Text × Text × ℕ)
+both_and_seed rows =
+    option_and_then (λ pair. option_map (λ seed. (pair.0, pair.1, seed)) (option_and_then seed_named (third rows))) (both rows)
 
 -- ---- forms
 
@@ -80,6 +95,14 @@ with_number name bound make = record {
   asks = λ rows. option_map (λ pair. make pair.0 pair.1) (value_and_number bound rows);
 }
 
+-- two values, and a seed
+abbrev pub with_seed : Text → (Text → Text → ℕ → Asked) → Form
+with_seed name make = record {
+  name = name;
+  values = Three;
+  asks = λ rows. option_map (λ found. make found.0 found.1 found.2) (both_and_seed rows);
+}
+
 -- the forms of all commands
 abbrev pub forms : List Form
 forms =
@@ -87,6 +110,7 @@ forms =
     ∷ with_one (codes "car") (λ plan. car plan)
     ∷ with_two (codes "replay") (λ plan trace. replay plan trace)
     ∷ with_two (codes "audit") (λ plan trace. audit plan trace)
+    ∷ with_seed (codes "talk") (λ site vehicle seed. talk site vehicle seed)
     ∷ on_dialect (codes "decode") (λ dialect hex. decode dialect hex)
     ∷ on_dialect (codes "encode") (λ dialect text. encode dialect text)
     ∷ with_one (codes "basic") (λ script. basic script)
@@ -104,6 +128,7 @@ named name forms = find (λ form. bytes_eq form.name name) forms
 abbrev pub count_of : Values → ℕ
 count_of One = 1
 count_of Two = 2
+count_of Three = 3
 
 -- a command of that name has so many values
 abbrev pub IsTaken : Text → List Text → Type 0
@@ -118,6 +143,7 @@ needed id = record (new_rule id) { required = true }
 abbrev pub rules_of : Values → List Rule
 rules_of One = needed first_id ∷ []
 rules_of Two = needed first_id ∷ needed second_id ∷ []
+rules_of Three = needed first_id ∷ needed second_id ∷ needed third_id ∷ []
 
 abbrev pub shape : Text → Values → Shape
 shape name values = record (new_shape name) { rules = rules_of values }
@@ -150,6 +176,7 @@ given id value = record { id = id; values = value ∷ []; count = None; source =
 abbrev pub given_rows : List Text → List Row
 given_rows (one ∷ []) = given first_id one ∷ []
 given_rows (one ∷ other ∷ []) = given first_id one ∷ given second_id other ∷ []
+given_rows (one ∷ other ∷ last ∷ []) = given first_id one ∷ given second_id other ∷ given third_id last ∷ []
 given_rows _ = []
 
 -- the words are a command and the values that it needs, and these are found

@@ -5,6 +5,7 @@
 pub(crate) enum Values {
     One,
     Two,
+    Three,
 }
 
 /// A command's name, and how many values it has.
@@ -34,12 +35,23 @@ macro_rules! with_two {
     };
 }
 
+/// A command with three values.
+macro_rules! with_three {
+    ($name:expr) => {
+        Form {
+            name: $name,
+            values: Values::Three,
+        }
+    };
+}
+
 /// All commands.
-pub(crate) const FORMS: [Form; 12] = [
+pub(crate) const FORMS: [Form; 13] = [
     with_one!("station"),
     with_one!("car"),
     with_two!("replay"),
     with_two!("audit"),
+    with_three!("talk"),
     with_two!("decode"),
     with_two!("encode"),
     with_one!("basic"),

@@ -57,9 +57,12 @@ fn command_of<'a>(alloc: Global, form: &Form) -> Result<Command<'a>, AllocError>
     ensures local { IfOk result (λ made. (out-Command made).has_globals ≡ false) }
 {
     let first = Arg::new(alloc, "FIRST").required(true);
+    let second = Arg::new(alloc, "SECOND").required(true);
+    let third = Arg::new(alloc, "THIRD").required(true);
     let command = Command::new(alloc, form.name).arg(first)?;
     match form.values {
         Values::One => Ok(command),
-        Values::Two => command.arg(Arg::new(alloc, "SECOND").required(true)),
+        Values::Two => command.arg(second),
+        Values::Three => command.arg(second)?.arg(third),
     }
 }

@@ -3,7 +3,7 @@
 ghost use Rattle.std.specs.Prelude.{◌≡◌, ◌<◌, ◌↔◌, IfOk, IfErr, option_map};
 ghost use Rattle.clap.specs.Words.{found_of, rows_of, subcommand_rows_of};
 ghost use Rattle.command_words.specs.Command.{HasWordsFault, IsCommand, asked_of, dialect_named};
-ghost use Rattle.command_words.specs.Grammar.{first, second, both, dialect_and_value, number_named, value_and_number, told, told_of};
+ghost use Rattle.command_words.specs.Grammar.{first, second, third, both, both_and_seed, dialect_and_value, number_named, seed_named, value_and_number, told, told_of};
 
 use crate::grammar::matches_of;
 use crate::word_list::WordList;
@@ -39,6 +39,12 @@ pub enum Command<'a> {
     Audit {
         plan: &'a str,
         trace: &'a str,
+    },
+    /// Lets the station of the plan in one file and the car of the plan in another talk over a pipe in memory, by this seed.
+    Talk {
+        station: &'a str,
+        car: &'a str,
+        seed: u64,
     },
     /// Prints the text of a payload of a dialect.
     Decode {
@@ -122,6 +128,9 @@ fn command_named<'a>(name: &str, values: &ArgMatches<'a>) -> Option<Command<'a>>
         "car" => first(values).map(|plan| Command::Car { plan }),
         "replay" => both(values).map(|(plan, trace)| Command::Replay { plan, trace }),
         "audit" => both(values).map(|(plan, trace)| Command::Audit { plan, trace }),
+        "talk" => {
+            with_seed(values).map(|(station, car, seed)| Command::Talk { station, car, seed })
+        }
         "decode" => on_dialect(values).map(|(dialect, hex)| Command::Decode { dialect, hex }),
         "encode" => on_dialect(values).map(|(dialect, text)| Command::Encode { dialect, text }),
         "basic" => first(values).map(|script| Command::Basic { script }),
@@ -152,7 +161,14 @@ fn second<'a>(values: &ArgMatches<'a>) -> Option<&'a str>
     values.get_str("SECOND")
 }
 
-/// Both values of a command.
+/// The third value of a command.
+fn third<'a>(values: &ArgMatches<'a>) -> Option<&'a str>
+    ensures { option_map (λ word. word.now) result ≡ third (rows_of (found_of values.now)) }
+{
+    values.get_str("THIRD")
+}
+
+/// The first two values of a command.
 fn both<'a>(values: &ArgMatches<'a>) -> Option<(&'a str, &'a str)>
     ensures { option_map (λ pair. (pair.0.now, pair.1.now)) result ≡ both (rows_of (found_of values.now)) }
 {
@@ -178,6 +194,25 @@ fn number_named(word: &str, bound: u32) -> Option<u32>
 {
     match number(word.as_bytes(), 0, u64::from(bound - 1)) {
         Ok(number) => Some(number as u32),
+        Err(_) => None,
+    }
+}
+
+/// The first two values of a command, and the seed that the third is.
+fn with_seed<'a>(values: &ArgMatches<'a>) -> Option<(&'a str, &'a str, u64)>
+    ensures { option_map (λ found. (found.0.now, found.1.now, found.2)) result ≡ both_and_seed (rows_of (found_of values.now)) }
+{
+    let (one, other) = both(values)?;
+    let seed = seed_named(third(values)?)?;
+    Some((one, other, seed))
+}
+
+/// The seed that a word is, a number of 64 bits.
+fn seed_named(word: &str) -> Option<u64>
+    ensures { result ≡ seed_named word.now }
+{
+    match number(word.as_bytes(), 0, u64::MAX) {
+        Ok(seed) => Some(seed),
         Err(_) => None,
     }
 }

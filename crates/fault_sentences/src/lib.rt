@@ -17,7 +17,7 @@ mod value;
 pub use audit::{FailedCheck, failed_check_in, say_failed_check};
 pub use command_words::Asked;
 pub use input::{DecodePlace, EncodePlace, place_in};
-pub use plan::say_plan;
+pub use plan::{say_plan, say_plans};
 pub use script::say_script;
 pub use sockets::say_trouble;
 pub use trace::{Line, is_of_a_car, line_in};

@@ -2,7 +2,7 @@
 
 use crate::value::{Described, value_at};
 use charge_world::Source;
-use plan_files::text_in;
+use plan_files::{site_plan_in, text_in};
 use plan_keys::{Key, LONGEST};
 use site_plan::{PlanFault, car_plan_of, site_plan_of};
 use std::alloc::Global;
@@ -33,6 +33,20 @@ pub fn say_plan<E: Eprint, F: Source>(
             "There is too little memory to say why the plan is refused.",
         ),
         Some(fault) => say_key(rt, alloc, name, &fault, text.as_slice()),
+    }
+}
+
+/// Says why one of two plans is refused: that of the station, or, where it isn't, that of the car.
+pub fn say_plans<E: Eprint, F: Source>(
+    rt: &E,
+    alloc: Global,
+    files: &mut F,
+    station: &str,
+    car: &str,
+) -> io::Result<()> {
+    match site_plan_in(alloc, files, station) {
+        Ok(_) => say_plan(rt, alloc, files, true, car),
+        Err(_) => say_plan(rt, alloc, files, false, station),
     }
 }
 

@@ -11,7 +11,7 @@ struct Usage {
     example: &'static str,
 }
 
-const COMMANDS: [Usage; 12] = [
+const COMMANDS: [Usage; 13] = [
     Usage {
         name: "station",
         values: "PLAN",
@@ -35,6 +35,12 @@ const COMMANDS: [Usage; 12] = [
         values: "PLAN TRACE",
         does: "judges the trace in the file TRACE, whoever wrote it, for the plan in the file PLAN",
         example: "v2g_charge audit station.toml run.trace",
+    },
+    Usage {
+        name: "talk",
+        values: "STATION CAR SEED",
+        does: "lets the station and the car of the plans in the files STATION and CAR talk in memory, in pieces by the number SEED",
+        example: "v2g_charge talk station.toml car.toml 1",
     },
     Usage {
         name: "decode",
@@ -146,17 +152,20 @@ fn say_values<E: Eprint>(rt: &E, usage: &Usage, words: &WordList) -> io::Result<
             "`{word}` begins with a dash, and there are no options. A file of that name is `./{word}`."
         );
     }
-    match (words.get(1), words.get(2)) {
-        (Some(dialect), _) if usage.values.starts_with("DIALECT") => {
+    match (words.get(1), words.get(2), words.get(3)) {
+        (Some(dialect), ..) if usage.values.starts_with("DIALECT") => {
             eprintln!(rt; "`{dialect}` is no DIALECT: write app, iso or din.")
         }
-        (_, Some(moment)) if usage.values.ends_with("MOMENT") => eprintln!(rt;
+        (_, Some(moment), _) if usage.values.ends_with("MOMENT") => eprintln!(rt;
             "`{moment}` is no MOMENT: write the second of the day, 0 to 86399, in digits without a zero in front."
         ),
-        (_, Some(id)) if usage.values.ends_with(" ID") => eprintln!(rt;
+        (_, Some(id), _) if usage.values.ends_with(" ID") => eprintln!(rt;
             "`{id}` is no ID: write the service's identifier, 0 to 65535, in digits without a zero in front."
         ),
-        (Some(want), _) if usage.values.starts_with("WANT") => eprintln!(rt;
+        (_, _, Some(seed)) if usage.values.ends_with("SEED") => eprintln!(rt;
+            "`{seed}` is no SEED: write a number of 64 bits, 0 to 18446744073709551615, in digits without a zero in front."
+        ),
+        (Some(want), ..) if usage.values.starts_with("WANT") => eprintln!(rt;
             "`{want}` is no WANT: write 1 to 16 pairs NAME=VALUE with `;` between them, a VALUE being true, false, a number of 32 bits, or at most 64 characters in double quotes."
         ),
         _ => rt.eprintln("The words are no command."),

@@ -3,7 +3,8 @@
 use charge_run::{Status, WordList, audited_fault};
 use fault_sentences::{
     Asked, DecodePlace, EncodePlace, failed_check_in, is_of_a_car, line_in, place_in,
-    say_failed_check, say_help, say_misused, say_plan, say_script, say_trouble, say_version,
+    say_failed_check, say_help, say_misused, say_plan, say_plans, say_script, say_trouble,
+    say_version,
 };
 use net_wire::{FileSource, NetWire, StandardOutput, TraceFile};
 use std::io;
@@ -116,6 +117,7 @@ fn say_refused(rt: &HostRuntime, words: &WordList, outside: Outside<'_, '_>) -> 
     match word(words, 0) {
         "station" | "replay" | "audit" => say_plan(rt, rt.alloc(), outside.files, false, name),
         "car" => say_plan(rt, rt.alloc(), outside.files, true, name),
+        "talk" => say_plans(rt, rt.alloc(), outside.files, name, word(words, 2)),
         "offer" => say_form(rt, name, CALENDAR),
         "schedule" => say_form(rt, name, NEED),
         "services" => say_form(rt, name, CATALOGUE),

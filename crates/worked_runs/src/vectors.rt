@@ -1,8 +1,9 @@
-//! Vectors of the commands of one file.
+//! Vectors of the commands of one file, and of pairs that talk.
 //!
-//! A vector is a line `=== offer MOMENT`, `=== schedule HEX`, `=== services ID`, `=== pick HEX`, `=== basic` or `=== migrate`, the text of the calendar, of
-//! the need, of the catalogue, what is wanted, alone on a line, the text of the script or of the trace, a line `--- STATUS`, what is printed, and the trace
-//! that is written. Each is run once more with an output that fails, which leaves it empty, and with a trace that takes two pieces alone.
+//! A vector is a line `=== offer MOMENT`, `=== schedule HEX`, `=== services ID`, `=== pick HEX`, `=== basic`, `=== migrate` or `=== talk SEED`, the text of the
+//! calendar, of the need, of the catalogue, what is wanted, alone on a line, the text of the script, of the trace or of the station's plan and behind a line
+//! `+++` of the car's, a line `--- STATUS`, what is printed, and the trace that is written. Each is run once more with an output that fails, which leaves it
+//! empty, and with a trace that takes two pieces alone.
 
 use crate::counts::Counts;
 use crate::fronts::is_front;
@@ -96,6 +97,12 @@ fn answered(alloc: Global, words: &str, text: &str, failing: Failing) -> Result<
     let left = match command {
         "pick" => {
             let words = [command, text.trim_end_matches('\n'), word];
+            left_by(alloc, &words, &files, failing, &mut wire)?
+        }
+        "talk" => {
+            let (station, car) = text.split_once("+++\n").context("a station without a car")?;
+            let files = [("station", station.as_bytes()), ("car", car.as_bytes())];
+            let words = [command, "station", "car", word];
             left_by(alloc, &words, &files, failing, &mut wire)?
         }
         "basic" | "migrate" => left_by(alloc, &[command, "file"], &files, failing, &mut wire)?,

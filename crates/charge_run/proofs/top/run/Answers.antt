@@ -1,7 +1,7 @@
 use Rattle.std.proofs.Common.{inl, inr, [], ◌∷◌}
-use Rattle.command_words.specs.Command.{replay, audit, decode, encode, basic, migrate, offer, schedule, services, pick}
-use Rattle.charge_run.proofs.Answered.{only_refused, only_unscanned, same_decoded, same_encoded, same_offered, same_owned, same_picked, same_served, wants_nothing}
-use Rattle.charge_run.proofs.WordLists.{one_audit, one_decode, one_encode, one_offer, one_pick, one_services}
+use Rattle.command_words.specs.Command.{replay, audit, talk, decode, encode, basic, migrate, offer, schedule, services, pick}
+use Rattle.charge_run.proofs.Answered.{only_refused, only_unscanned, same_decoded, same_encoded, same_offered, same_owned, same_picked, same_served, same_talked, wants_nothing}
+use Rattle.charge_run.proofs.WordLists.{one_audit, one_decode, one_encode, one_offer, one_pick, one_services, one_talk}
 use Rattle.charge_run.proofs.Complete.{unfailed}
 use Rattle.command_status.specs.Told.{sink_told, TellsAlways}
 use Rattle.command_status.specs.declared.status.Status.TheVariants as status
@@ -49,7 +49,18 @@ returns-in-Ok-Audit-clause-own g c plan recorded is =
 pub returns-in-Ok-Audit-clause-apart : goal.returns-in-Ok-Audit-clause-apart
 returns-in-Ok-Audit-clause-apart g c =
     let told = (rw c.in-Ok-Audit.field-0-is at c.in-Ok-Audit.ensures.command) in
-    λ none. absurd (none (inl (inr (inr (inr (inr (inr (_, _, told))))))))
+    λ none. absurd (none (inl (inr (inr (inr (inr (inr (inl (_, _, told)))))))))
+
+pub returns-in-Ok-Talk-clause-talk : goal.returns-in-Ok-Talk-clause-talk
+returns-in-Ok-Talk-clause-talk g c station car seed is =
+    let told = (rw c.in-Ok-Talk.field-0-is at c.in-Ok-Talk.ensures.command) in
+    same_talked (g.F.Source.holds c.args.files.now) (TellsAlways g.F.Source.left) c.in-Ok-Talk.station.now station c.in-Ok-Talk.car.now car c.in-Ok-Talk.seed seed
+    (one_talk c.args.words.now c.in-Ok-Talk.station.now station c.in-Ok-Talk.car.now car c.in-Ok-Talk.seed seed told is) _ _ _ _ _ c.talk_pair.ensures.leaves
+
+pub returns-in-Ok-Talk-clause-apart : goal.returns-in-Ok-Talk-clause-apart
+returns-in-Ok-Talk-clause-apart g c =
+    let told = (rw c.in-Ok-Talk.field-0-is at c.in-Ok-Talk.ensures.command) in
+    λ none. absurd (none (inl (inr (inr (inr (inr (inr (inr (_, _, _, told)))))))))
 
 pub returns-in-Ok-Basic-clause-apart : goal.returns-in-Ok-Basic-clause-apart
 returns-in-Ok-Basic-clause-apart g c =
@@ -121,6 +132,11 @@ returns-in-Err-NoCommand-clause-own g c plan recorded is =
     let none = (rw c.in-Err-NoCommand.field-0-is at c.in-Err-NoCommand.ensures.fault) in
     absurd (none (audit plan recorded) is)
 
+pub returns-in-Err-NoCommand-clause-talk : goal.returns-in-Err-NoCommand-clause-talk
+returns-in-Err-NoCommand-clause-talk g c station car seed is =
+    let none = (rw c.in-Err-NoCommand.field-0-is at c.in-Err-NoCommand.ensures.fault) in
+    absurd (none (talk station car seed) is)
+
 pub returns-in-Err-NoCommand-clause-basic : goal.returns-in-Err-NoCommand-clause-basic
 returns-in-Err-NoCommand-clause-basic g c name is =
     let none = (rw c.in-Err-NoCommand.field-0-is at c.in-Err-NoCommand.ensures.fault) in
@@ -184,6 +200,9 @@ returns-in-Ok-Replay-clause-complete g c = λ none. unfailed (status.Done ∷ st
 
 pub returns-in-Ok-Audit-clause-complete : goal.returns-in-Ok-Audit-clause-complete
 returns-in-Ok-Audit-clause-complete g c = λ none. unfailed (status.Done ∷ status.NoMemory ∷ status.Plan ∷ status.Input ∷ status.AuditNo ∷ []) c.audit_trace.result (tt, (tt, (tt, (tt, (tt, tt))))) (c.audit_trace.ensures.complete (none.0, (none.1.0, tt)))
+
+pub returns-in-Ok-Talk-clause-complete : goal.returns-in-Ok-Talk-clause-complete
+returns-in-Ok-Talk-clause-complete g c = λ none. unfailed (status.Done ∷ status.NoMemory ∷ status.Plan ∷ []) c.talk_pair.result (tt, (tt, (tt, tt))) (c.talk_pair.ensures.complete (none.0, (none.1.0, tt)))
 
 pub returns-in-Ok-Decode-clause-complete : goal.returns-in-Ok-Decode-clause-complete
 returns-in-Ok-Decode-clause-complete g c = λ none. unfailed (status.Done ∷ status.NoMemory ∷ status.Input ∷ []) c.decode.result (tt, (tt, (tt, tt))) (c.decode.ensures.complete (none.1.0, tt))

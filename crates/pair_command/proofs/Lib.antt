@@ -1,0 +1,4 @@
+pub mod OneCar
+pub mod Decided
+pub mod Leaving
+pub mod Complete

@@ -1,0 +1,4 @@
+pub mod Files
+pub mod Talking
+pub mod Printing
+pub mod Leaving
