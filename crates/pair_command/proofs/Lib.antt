@@ -2,3 +2,4 @@ pub mod OneCar
 pub mod Decided
 pub mod Leaving
 pub mod Complete
+pub mod Lines

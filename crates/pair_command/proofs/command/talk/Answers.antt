@@ -6,12 +6,12 @@ use Rattle.pair_command.proofs.command.talk.Goals as goal
 
 pub returns-in-Ok-clause-leaves : goal.returns-in-Ok-clause-leaves
 returns-in-Ok-clause-leaves g c =
-    has_talked _ _ (record { of_station = g.C.LawfulCodec.determined; of_car = g.D.LawfulCarCodec.determined }) _ _ c.print_talk.result c.in-Ok.plans.station c.in-Ok.plans.car _ _ _
+    has_talked _ _ (record { of_station = g.met.C.LawfulCodec.determined; of_car = g.met.D.LawfulCarCodec.determined }) _ _ c.print_talk.result c.in-Ok.plans.station c.in-Ok.plans.car _ _ _
     c.in-Ok.ensures.read c.in-Ok.ensures.faults c.print_talk.ensures
 
 pub returns-in-Err-clause-leaves : goal.returns-in-Err-clause-leaves
 returns-in-Err-clause-leaves g c =
-    was_refused _ _ (record { of_station = g.C.LawfulCodec.determined; of_car = g.D.LawfulCarCodec.determined }) _ _ c.in-Err.fault c.refuse_file.result _ _ _
+    was_refused _ _ (record { of_station = g.met.C.LawfulCodec.determined; of_car = g.met.D.LawfulCarCodec.determined }) _ _ c.in-Err.fault c.refuse_file.result _ _ _
     c.in-Err.ensures.fault c.in-Err.ensures.faults c.refuse_file.ensures
 
 pub returns-in-Ok-clause-no_memory : goal.returns-in-Ok-clause-no_memory
