@@ -7,3 +7,7 @@ pub mod Lessening
 pub mod Turns
 pub mod Happened
 pub mod Sessions
+pub mod Goings
+pub mod Bounds
+pub mod Partings
+pub mod Generated

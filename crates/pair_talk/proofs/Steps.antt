@@ -9,7 +9,7 @@ use Rattle.pipe_spec.specs.Histories.{Happening, StationDoes, CarReads, CarDoes}
 use Rattle.pipe_spec.specs.Runs.{IsWithin}
 use Rattle.pipe_spec.specs.Turns.{Station}
 use Rattle.pair_ends.specs.Ends.{PostSide, CarSide, PostDoes, PostRests, CarGoes, CarRests}
-use Rattle.pair_talk.specs.Acting.{HasHappened, MayHaveHappened}
+use Rattle.pair_talk.specs.Acting.{HasHappened, MayHaveHappened, MayHaveActed, IsOfStation, HasAnswered}
 use Rattle.pair_talk.specs.Keeping.{PostIsQuiet, IsAt, GoesOn}
 use Rattle.pair_talk.specs.Sides.{Sides}
 use Rattle.pair_talk.proofs.Acts.{post_goes, post_rests, car_read_goes, car_act_goes}
@@ -38,12 +38,29 @@ at_same c cc st plan h s new e k = subst (IsAt c cc st plan h) (sym e) k
 
 -- the station
 pub post_once : (c : Codecs) (cc : car.Codecs) (st : Station) (plan : CarPlan) (h : List Happening) (s : Sides) (new : PostSide) (way : List ℕ) (b : Bool)
-    → MatchBool b (PostDoes c s.moment s.post s.to_car new way) (PostRests s.post s.to_car new way) → IsAt c cc st plan h s → MayHaveHappened c cc st plan h b (record s { post = new; to_car = way })
-post_once c cc st plan h s new way true d k = record { happening = StationDoes d.reading d.act; within = refl; at = post_goes c cc st plan h s new way k d }
+    → MatchBool b (PostDoes c s.moment s.post s.to_car new way) (PostRests s.post s.to_car new way) → IsAt c cc st plan h s → MayHaveActed c cc st plan h b (record s { post = new; to_car = way })
+post_once c cc st plan h s new way true d k = record { reading = d.reading; act = d.act; at = post_goes c cc st plan h s new way k d }
 post_once c cc st plan h s new way false d k =
     let e = d.new_is in
     let f = d.way_is in
     at_same c cc st plan h s (record s { post = new; to_car = way }) (λ i. record s { post = e i; to_car = f i }) k
+
+pub no_act : (c : Codecs) (cc : car.Codecs) (st : Station) (plan : CarPlan) (h : List Happening) (s : Sides) → IsAt c cc st plan h s → HasAnswered c cc st plan h s
+no_act c cc st plan h s k = record { acts = []; alone = tt; at = k }
+
+pub one_act : (c : Codecs) (cc : car.Codecs) (st : Station) (plan : CarPlan) (h : List Happening) (s new : Sides) (b : Bool) → (g : HasAnswered c cc st plan h s) → MayHaveActed c cc st plan (g.acts ++ h) b new
+    → HasAnswered c cc st plan h new
+one_act c cc st plan h s new true g m = record { acts = StationDoes m.reading m.act ∷ g.acts; alone = (refl, g.alone); at = m.at }
+one_act c cc st plan h s new false g m = record { acts = g.acts; alone = g.alone; at = m }
+
+acts_within : (acts : List Happening) → AllByRecursion IsOfStation acts → AllByRecursion IsWithin acts
+acts_within [] a = tt
+acts_within (StationDoes reading act ∷ acts) a = (refl, acts_within acts a.1)
+acts_within (other ∷ acts) a = absurd (let f : false ≡ true = a.0 in cc)
+
+-- the station alone has gone on with the session
+pub answered : (c : Codecs) (cc : car.Codecs) (st : Station) (plan : CarPlan) (h : List Happening) (s : Sides) → HasAnswered c cc st plan h s → GoesOn c cc st plan h s
+answered c cc st plan h s g = record { session = g.acts; within = acts_within g.acts g.alone; at = g.at }
 
 -- the car
 pub car_once : (c : Codecs) (cc : car.Codecs) (st : Station) (plan : CarPlan) (h : List Happening) (s : Sides) (new : CarSide) (way : List ℕ) (b : Bool) → PostIsQuiet s

@@ -86,7 +86,7 @@ heard_so plan h s now at event e k =
 may_turn : (st : Station) (plan : CarPlan) (h : List Happening) (p : PostSide) (o : Option CarPlan) (e : Happening) → car_plan h ≡ Some (joined plan) → BothRest st h → is_over st h ≡ false → IsPostAt st h p → IsTurn st p.charger h e → MayTurn st h e
 may_turn st plan h p o e came rest goes_on k turn = record { plan = joined plan; came = came; rest = rest; goes_on = goes_on; charger = p.charger; charger_is = k.charger_is; turn = turn }
 
-same_car : (plan : CarPlan) (h k : List Happening) (s : CarSide) → car_steps k ≡ car_steps h → car_cause k ≡ car_cause h → car_hearings k ≡ car_hearings h → exchanges k ≡ exchanges h → IsCarAt plan h s → IsCarAt plan k s
+pub same_car : (plan : CarPlan) (h k : List Happening) (s : CarSide) → car_steps k ≡ car_steps h → car_cause k ≡ car_cause h → car_hearings k ≡ car_hearings h → exchanges k ≡ exchanges h → IsCarAt plan h s → IsCarAt plan k s
 same_car plan h k s steps cause hearings x i = record {
   plan_is = i.plan_is;
   car_is = i.car_is ∙ ap (state (joined plan)) (sym steps);
@@ -102,7 +102,7 @@ heard_car plan h k s new steps n a b cause x d i = record {
   tally = record { hearings = d.hearings ∙ ap capped (sym b); exchanges_are = d.exchanges_are ∙ i.tally.exchanges_are ∙ ap few (sym x); cause = d.cause_is ∙ i.tally.cause ∙ sym cause };
 }
 
-heard_post : (st : Station) (h k : List Happening) (p : PostSide) (charger : Charger) (now at : ℕ) (event : Event) → now ≡ at → station_state st k ≡ hearing at event (station_state st h) → IsCharger st.post.free k charger → SameCounts h k → IsPostAt st h p
+pub heard_post : (st : Station) (h k : List Happening) (p : PostSide) (charger : Charger) (now at : ℕ) (event : Event) → now ≡ at → station_state st k ≡ hearing at event (station_state st h) → IsCharger st.post.free k charger → SameCounts h k → IsPostAt st h p
     → IsPostAt st k (post_heard_at now event (record p { charger = charger }))
 heard_post st h k p charger now at event e s ch counts_are i = record {
   plan_is = i.plan_is;

@@ -6,5 +6,7 @@ pub mod Lessening
 pub mod Beginning
 pub mod Ending
 pub mod Making
+pub mod Parting
+pub mod Generating
 pub use Rattle.pipe_spec.specs.Counts
 pub use Rattle.pipe_spec.specs.Runs

@@ -1,8 +1,9 @@
 -- Own: what is kept of a pair, and what each happening makes of it.
 use Rattle.std.specs.Prelude.{ℕ, ◌+◌, List, [], length, take, drop, if◌then◌else◌}
 use Rattle.charge_world.specs.declared.heard.PlantEvent.{PlantEvent}
+use Rattle.session_words.specs.declared.plan.CarPlan.{CarPlan}
 use Rattle.plant_sim.specs.Charger.{Charger}
-use Rattle.post_spec.specs.Steps.{Event, Plant, Bytes, Clock}
+use Rattle.post_spec.specs.Steps.{Event, Plant, Bytes, Gone, Clock}
 use Rattle.pipe_spec.specs.Numbers.{next, drawn}
 use Rattle.pair_ends.specs.Ends.{PostSide, CarSide, post_side, car_side, post_heard_at, post_came_at, car_heard_at, car_came_at}
 use Rattle.pair_talk.specs.declared.pair.Pair.{Pair}
@@ -65,3 +66,11 @@ later s = record s {
   car = heard_by (s.moment + 10) Clock s.car;
   moment = s.moment + 10;
 }
+
+-- the connection goes
+abbrev pub gone : Sides → Sides
+gone s = record s { post = post_heard_at s.moment Gone s.post }
+
+-- the next car has this plan
+abbrev pub with_plan : CarPlan → Sides → Sides
+with_plan plan s = record s { car = record s.car { plan = plan } }

@@ -8,7 +8,7 @@ ghost use Rattle.site_posts.specs.Work.{work};
 ghost use Rattle.evcc_machine.specs.Work.{work as car_work};
 ghost use Rattle.pipe_spec.specs.Histories.{Happening};
 ghost use Rattle.pipe_spec.specs.Turns.{Station};
-ghost use Rattle.pair_talk.specs.Acting.{MayHaveHappened};
+ghost use Rattle.pair_talk.specs.Acting.{MayHaveActed, MayHaveHappened, HasAnswered};
 ghost use Rattle.pair_talk.specs.Keeping.{AreSound, PostIsQuiet, CarIsQuiet, IsAt, GoesOn};
 ghost use Rattle.pair_talk.specs.Lessening.{Keeps};
 ghost use Rattle.pair_talk.specs.Sides.{sides};
@@ -22,7 +22,7 @@ use site_codec::Codec;
 fn act_once<C: Codec, D: CarCodec>(codec: &mut C, pair: &mut Pair) -> bool
     requires { AreSound C.reads (sides pair.old) }
     ensures acts { (st : Station) (plan : CarPlan) (h : List Happening) → IsAt (codecs C.negotiates C.reads C.encodes) (car_codecs.codecs D.offers D.responds D.reads D.encodes) st plan h (sides pair.old)
-        → MayHaveHappened (codecs C.negotiates C.reads C.encodes) (car_codecs.codecs D.offers D.responds D.reads D.encodes) st plan h result (sides pair.new) }
+        → MayHaveActed (codecs C.negotiates C.reads C.encodes) (car_codecs.codecs D.offers D.responds D.reads D.encodes) st plan h result (sides pair.new) }
     ensures sound { AreSound C.reads (sides pair.new) }
     ensures quiet { result ≡ false → PostIsQuiet (sides pair.new) }
     ensures kept { Keeps (sides pair.old) (sides pair.new) }
@@ -36,7 +36,7 @@ fn act_once<C: Codec, D: CarCodec>(codec: &mut C, pair: &mut Pair) -> bool
 pub(crate) fn answer_post<C: Codec, D: CarCodec>(codec: &mut C, pair: &mut Pair)
     requires { AreSound C.reads (sides pair.old) }
     ensures acts { (st : Station) (plan : CarPlan) (h : List Happening) → IsAt (codecs C.negotiates C.reads C.encodes) (car_codecs.codecs D.offers D.responds D.reads D.encodes) st plan h (sides pair.old)
-        → GoesOn (codecs C.negotiates C.reads C.encodes) (car_codecs.codecs D.offers D.responds D.reads D.encodes) st plan h (sides pair.new) }
+        → HasAnswered (codecs C.negotiates C.reads C.encodes) (car_codecs.codecs D.offers D.responds D.reads D.encodes) st plan h (sides pair.new) }
     ensures sound { AreSound C.reads (sides pair.new) }
     ensures quiet { PostIsQuiet (sides pair.new) }
     ensures kept { Keeps (sides pair.old) (sides pair.new) }

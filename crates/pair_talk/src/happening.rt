@@ -2,17 +2,22 @@
 
 ghost use Rattle.std.specs.Prelude.{◌≡◌, ◌<◌, ◌^◌, ◌≤◌, ◌+◌, length, take};
 ghost use Rattle.car_spec.specs.Next.{IsQuiet};
-ghost use Rattle.pair_talk.specs.Keeping.{PostIsQuiet, CarIsQuiet};
-ghost use Rattle.pair_talk.specs.Sides.{sides, with_car, with_event, with_piece_at_station, with_piece_at_car, later, heard_by, piece_of};
+ghost use Rattle.session_words.specs.Plans.{IsCarPlan};
+ghost use Rattle.car_codec.specs.Requests.{IsPlan};
+ghost use Rattle.pipe_spec.specs.Histories.{joined};
+ghost use Rattle.pair_talk.specs.Keeping.{PostIsQuiet, CarIsQuiet, ported};
+ghost use Rattle.pair_talk.specs.Sides.{sides, with_car, with_event, with_piece_at_station, with_piece_at_car, later, gone, with_plan, heard_by, piece_of};
 ghost use Rattle.pair_ends.specs.Ends.{car_side};
 ghost use Rattle.evcc_machine.specs.Views.{event_of};
 ghost use Rattle.pipe_spec.specs.Numbers.{next};
 
+use crate::making::{bound_car, plan_joined};
 use crate::pair::Pair;
 use charge_world::{PlantEvent, What};
 use evcc_machine::CarEvent;
 use pair_ends::{CarEnd, Way};
 use pipe_spec::Numbers;
+use session_words::CarPlan;
 
 /// How many bytes of those under way are heard next.
 fn piece_length(numbers: &mut Numbers, way: &Way) -> usize
@@ -98,5 +103,24 @@ impl Pair {
         self.moment += 10;
         self.post.hear(self.moment, What::Tick, &[]);
         car_hears(&mut self.car, self.moment, CarEvent::Clock, &[]);
+    }
+
+    /// The connection goes.
+    pub(crate) fn go(&mut self)
+        requires { PostIsQuiet (sides self.old) }
+        ensures { sides self.new ≡ gone (sides self.old) }
+    {
+        self.post.hear(self.moment, What::Gone { post: 1 }, &[]);
+    }
+
+    /// The next car has this plan.
+    pub(crate) fn take(&mut self, car: &CarPlan)
+        requires { IsCarPlan car.now }
+        ensures plan { sides self.new ≡ with_plan (ported (joined car.now)) (sides self.old) }
+        ensures rules { IsPlan (sides self.new).car.plan }
+    {
+        let plan = plan_joined(car);
+        bound_car(&plan);
+        self.car.driver.plan = plan;
     }
 }

@@ -1,17 +1,22 @@
 //! A station and a car that a pipe in memory joins (own): what becomes of their plans.
 //!
-//! Proved: for any codecs, `talk`: its report is that of the run of the pipe that both plans and the seed determine (`IsTalk`).
+//! Proved: for any codecs, `talk`: its report is that of the run of the pipe that both plans and the seed determine (`IsTalk`); `generate`: what
+//! it counts are the counts of so many sessions, one behind another, whose cars are drawn (`AreCounts`).
 //!
 //! A session takes no memory once it has begun: nothing in it is passed an allocator, and what is under way never outgrows its room.
 #![tactic(auto)]
 
 mod acting;
+mod generating;
 mod happening;
 mod making;
 mod pair;
+mod parting;
 mod session;
 mod talking;
 mod turning;
 
+pub use generating::generate;
+pub use pair_plans::PipeCounts;
 pub use std::alloc::AllocError as NoMemory;
 pub use talking::{TalkReport, talk};

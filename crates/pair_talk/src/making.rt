@@ -1,6 +1,6 @@
 //! A pair in memory. All memory that a session needs is taken when it is made.
 
-ghost use Rattle.std.specs.Prelude.{◌≡◌, IfOk};
+ghost use Rattle.std.specs.Prelude.{◌≡◌, IfOk, length};
 ghost use Rattle.session_words.specs.Plans.{IsCarPlan, IsPostPlan, IsSitePlan};
 ghost use Rattle.session_words.specs.declared.plan.PostPlan.{PostPlan as PostPlanOf};
 ghost use Rattle.station_spec.specs.States.{fresh};
@@ -56,6 +56,24 @@ pub(crate) fn plan_joined(plan: &CarPlan) -> CarPlan
         tcp: Some(PORT),
         ..plan.copied()
     }
+}
+
+/// An EVCCID has six bytes.
+fn bound_id(id: [u8; 6])
+    ensures { length id ≡ 6 }
+{}
+
+/// The values of a plan are within their types. It does nothing: each value is looked at for the prover, which so knows its bound.
+pub(crate) fn bound_car(plan: &CarPlan)
+    requires { IsCarPlan plan.now }
+    ensures { IsPlan plan.now }
+{
+    bound_id(plan.car_id);
+    let _target_voltage = plan.target_voltage.get();
+    let _target_current = plan.target_current.get();
+    let _max_voltage = plan.max_voltage.get();
+    let _max_current = plan.max_current.get();
+    let _min_current = plan.min_current.get();
 }
 
 /// A car of this plan.
