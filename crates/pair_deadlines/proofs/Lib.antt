@@ -6,3 +6,11 @@ pub mod Setup
 pub mod CarMoves
 pub mod Starting
 pub mod Waits
+pub mod Passing
+pub mod Held
+pub mod Hearings
+pub mod Passes
+pub mod Does
+pub mod Cars
+pub mod Paces
+pub mod Deadlines

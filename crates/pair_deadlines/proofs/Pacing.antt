@@ -89,7 +89,7 @@ hears_paced event at (Some y) n p = p
 
 -- ---- a word
 
-timing_not : Timing ≡ Unheard → ⊥
+pub timing_not : Timing ≡ Unheard → ⊥
 timing_not e = cc
 
 eventing_not : Eventing ≡ Unheard → ⊥
@@ -151,9 +151,9 @@ word_paced (Told r) plan s session a due = told_paced session.stage plan s sessi
 word_paced WrongSide plan s session a due = (a, ends_rest session.stage _ s.live session.again)
 word_paced Refused plan s session a due = (a, ends_rest session.stage _ s.live session.again)
 
-pub reads_paced : (o : Option Session) (plan : CarPlan) (s : State) (w : Judged) → o ≡ s.session → PacedBy s.agenda o → is_some (due_at s.clock plan.pace) ≡ true → ReadsPaced (judged_in plan s o w)
-reads_paced None plan s w e p due = subst (PacedBy s.agenda) e tt
-reads_paced (Some y) plan s w e p due = word_paced w plan s y p.0 due
+pub reads_paced : (o : Option Session) (agenda : Agenda) (plan : CarPlan) (s : State) (w : Judged) → o ≡ s.session → PacedBy agenda o → is_some (due_at s.clock plan.pace) ≡ true → ReadsPaced (judged_in plan s o w)
+reads_paced None agenda plan s w e p due = subst (PacedBy s.agenda) e tt
+reads_paced (Some y) agenda plan s w e p due = word_paced w plan s y p.0 due
 
 moved_part : (b : Bool) (plan : CarPlan) (s : State) (session : Session) (from to : CarStage) (r : Reply) → is_again from.phase to.phase ≡ b → (moved plan s session from r to).part ≡ Wording
 moved_part true plan s session from to r e = rw e refl
