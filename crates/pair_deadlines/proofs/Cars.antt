@@ -27,7 +27,7 @@ use Rattle.pair_acts.specs.Acts.{IsOfCar}
 use Rattle.pair_acts.proofs.Cars.{cars_act}
 use Rattle.pair_courses.specs.Courses.{GoesWell}
 use Rattle.pair_contactors.specs.Contactors.{Stands}
-use Rattle.pair_pauses.proofs.Clocks.{same_car_clock}
+use Rattle.pair_deadlines.proofs.Clocks.{same_car_clock}
 use Rattle.pair_deadlines.specs.Paces.{IsSetUpAtOnce}
 use Rattle.pair_deadlines.proofs.Pacing.{PacedBy, IsPaced, wording_not, decides_heard, reads_paced, reads_heard, says_paced, gives_paced}
 use Rattle.pair_deadlines.proofs.Asked.{AskedIn, asked_on, reads_asked, says_asked, stays_asked}

@@ -36,10 +36,11 @@ use Rattle.pipe_laws.specs.OneMessage.{IsShort}
 use Rattle.pair_phases.specs.Acts.{IsPair}
 use Rattle.pair_undisturbed.specs.Limits.{IsInTime, IsCarInTime}
 use Rattle.pair_undisturbed.specs.Power.{KeepsTime, AllKeepTime}
-use Rattle.pair_pauses.specs.Clocks.{ShowMoment}
-use Rattle.pair_pauses.proofs.Clocks.{clocks}
+use Rattle.pair_undisturbed.proofs.Deadlines.{timely_sessions_end}
+use Rattle.pair_deadlines.specs.Clocks.{ShowMoment}
+use Rattle.pair_deadlines.proofs.Clocks.{clocks}
 use Rattle.pair_deadlines.specs.Paces.{IsSoonBehind, IsFresh, IsFreshIn, IsSetUpAtOnce, KeepsPace}
-use Rattle.pair_deadlines.specs.Steps.{step_deadline, IsStepInTime, KeepsSteps, AllKeepSteps, DeadlinesAreKept}
+use Rattle.pair_deadlines.specs.Steps.{step_deadline, IsStepInTime, KeepsSteps, AllKeepSteps, DeadlinesAreKept, SteadySessionsEnd}
 use Rattle.pair_deadlines.proofs.Since.{hears_since}
 use Rattle.pair_deadlines.proofs.Paces.{front, holds_in, keeps}
 
@@ -226,3 +227,8 @@ deadlines_are_kept c cs st plan h p f l d =
     subst (λ (x : List Happening). AllKeepTime st (joined plan) x) (sym f.h_is)
     (kept_in c cs st plan f.session p f.within (subst (λ (x : List Happening). IsRun c cs st x) f.h_is f.run) (subst (λ (x : List Happening). AllByRecursion (IsShort 65544) x) f.h_is l)
     (subst (λ (x : List Happening). AllKeepSteps (joined plan) x) f.h_is d))
+
+pub steady_sessions_end : (c : post.Codecs) (cs : car.Codecs) → SteadySessionsEnd c cs
+steady_sessions_end c cs st plan h p f l d turns car_turns =
+    timely_sessions_end c cs st plan h p f l
+    (deadlines_are_kept c cs st plan h p (record { session = f.session; h_is = f.h_is; within = f.within; run = f.run }) l d) turns car_turns

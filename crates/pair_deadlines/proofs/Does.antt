@@ -27,7 +27,7 @@ use Rattle.pair_requests.specs.Requests.{SaysOrEnds, IsOffered, IsAsked}
 use Rattle.pair_requests.proofs.Does.{posts_do}
 use Rattle.pair_courses.specs.Courses.{IsAt, GoesUndisturbed, GoesWell}
 use Rattle.pair_contactors.specs.Contactors.{Stands}
-use Rattle.pair_pauses.proofs.Clocks.{filled_clock}
+use Rattle.pair_deadlines.proofs.Clocks.{filled_clock}
 use Rattle.pair_deadlines.specs.Paces.{IsSoonBehind}
 use Rattle.pair_deadlines.proofs.Pacing.{IsRepeated, AgainBy, PacedBy, IsPaced}
 use Rattle.pair_deadlines.proofs.Since.{does_since}

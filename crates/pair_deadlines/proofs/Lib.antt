@@ -1,3 +1,7 @@
+pub mod Clocks
+pub mod Pauses
+pub mod Bounds
+pub mod Closing
 pub mod Pacing
 pub mod Since
 pub mod Asked

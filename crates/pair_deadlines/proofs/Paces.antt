@@ -26,14 +26,14 @@ use Rattle.pair_contactors.specs.Contactors.{Stands}
 use Rattle.pair_contactors.proofs.Contactors.{contactors_follow}
 use Rattle.pair_undisturbed.specs.Power.{AllKeepTime}
 use Rattle.pair_undisturbed.proofs.Deadlines.{timely_sessions_are_undisturbed}
-use Rattle.pair_pauses.specs.Clocks.{ShowMoment}
-use Rattle.pair_pauses.specs.Pauses.{PausesAt}
-use Rattle.pair_pauses.proofs.Clocks.{clocks}
-use Rattle.pair_pauses.proofs.Pauses.{time_passes_in_pauses}
-use Rattle.pair_moments.specs.Bounds.{IsBounded}
-use Rattle.pair_moments.specs.Closing.{IsHeardSoon}
-use Rattle.pair_moments.proofs.Bounds.{bounded}
-use Rattle.pair_moments.proofs.Closing.{closes_are_heard}
+use Rattle.pair_deadlines.specs.Clocks.{ShowMoment}
+use Rattle.pair_deadlines.specs.Pauses.{PausesAt}
+use Rattle.pair_deadlines.proofs.Clocks.{clocks}
+use Rattle.pair_deadlines.proofs.Pauses.{time_passes_in_pauses}
+use Rattle.pair_deadlines.specs.Bounds.{IsBounded}
+use Rattle.pair_deadlines.specs.Closing.{IsHeardSoon}
+use Rattle.pair_deadlines.proofs.Bounds.{bounded}
+use Rattle.pair_deadlines.proofs.Closing.{closes_are_heard}
 use Rattle.pair_deadlines.specs.Paces.{IsFresh, IsFreshIn, KeepsPace, SessionsKeepPace}
 use Rattle.pair_deadlines.proofs.Pacing.{timing_not}
 use Rattle.pair_deadlines.proofs.Asked.{AskedBy, AskedIn}

@@ -20,7 +20,7 @@ use Rattle.pipe_spec.specs.Histories.{Happening, TimePasses, moment, car_plan, c
 use Rattle.pipe_spec.specs.Turns.{Station, station_state, car_state, BothRest, MayTurn, nothing_under_way, car_is_spent, is_over}
 use Rattle.pair_words.specs.Meeting.{ArePaired}
 use Rattle.pair_phases.specs.Acts.{IsPair}
-use Rattle.pair_moments.specs.Bounds.{IsBounded}
+use Rattle.pair_deadlines.specs.Bounds.{IsBounded}
 use Rattle.pair_deadlines.specs.Paces.{IsSoonBehind, IsSetUpAtOnce}
 use Rattle.pair_deadlines.proofs.Pacing.{IsPaced}
 use Rattle.pair_deadlines.proofs.Since.{IsSoonPassed, passes_since}

@@ -24,8 +24,8 @@ use Rattle.pair_deeds.specs.Posts as posts
 use Rattle.pair_deeds.specs.Cars as cars
 use Rattle.pair_phases.specs.Ends.{Listens, Awaits, Pauses}
 use Rattle.pair_phases.specs.Phases.{exchange}
-use Rattle.pair_pauses.specs.Pauses.{IsPausing, Resting, Closing}
-use Rattle.pair_moments.specs.Closing.{IsHeardSoon}
+use Rattle.pair_deadlines.specs.Pauses.{IsPausing, Resting, Closing}
+use Rattle.pair_deadlines.specs.Closing.{IsHeardSoon}
 use Rattle.pair_deadlines.proofs.Pacing.{IsRepeated, AgainBy, RestsBy, PacedBy, IsPaced, not_due}
 use Rattle.pair_deadlines.proofs.Starting.{waits_for_start, again_set_up}
 use Rattle.pair_deadlines.proofs.Waits.{WaitsFor, closes}

@@ -25,7 +25,7 @@ use Rattle.car_laws.proofs.Decided as car_decided
 use Rattle.pipe_spec.specs.Histories.{Happening, CarComes, ChargerTells, StationHears, CarHears, TimePasses, StationDoes, CarReads, CarDoes, CarGoes, NumberIsDrawn, moment, joined, car_ended_by, car_cause, car_steps as steps_of_car}
 use Rattle.pipe_spec.specs.Turns.{Station, station_state, car_state}
 use Rattle.pipe_spec.specs.Runs.{IsWithin}
-use Rattle.pair_pauses.specs.Clocks.{ShowMoment, ClocksAreRight}
+use Rattle.pair_deadlines.specs.Clocks.{ShowMoment, ClocksAreRight}
 
 true_false : (b : Bool) → b ≡ true → b ≡ false → ⊥
 true_false b e f = cc

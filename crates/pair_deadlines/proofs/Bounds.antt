@@ -21,7 +21,7 @@ use Rattle.pipe_spec.specs.Histories.{Happening, CarComes, ChargerTells, Station
 use Rattle.pipe_spec.specs.Turns.{car_state}
 use Rattle.pipe_spec.specs.Runs.{IsWithin}
 use Rattle.pair_phases.proofs.Cars.{same_session}
-use Rattle.pair_moments.specs.Bounds.{CameFirst, IsBounded, MomentsAreBounded}
+use Rattle.pair_deadlines.specs.Bounds.{CameFirst, IsBounded, MomentsAreBounded}
 
 true_false : (b : Bool) → b ≡ true → b ≡ false → ⊥
 true_false b e f = cc

@@ -49,9 +49,9 @@ use Rattle.pair_contactors.specs.Contactors.{IsLinked, IsClosing, Stands}
 use Rattle.pair_contactors.proofs.Waiting.{no_reply}
 use Rattle.pair_contactors.proofs.Places.{contactor_heard, nothing_closes}
 use Rattle.pair_contactors.proofs.Contactors.{not_closing, still_closing, contactors_follow}
-use Rattle.pair_pauses.specs.Clocks.{ShowMoment}
-use Rattle.pair_pauses.proofs.Clocks.{clocks, filled_clock}
-use Rattle.pair_moments.specs.Closing.{IsHeardSoon, ClosesAreHeard}
+use Rattle.pair_deadlines.specs.Clocks.{ShowMoment}
+use Rattle.pair_deadlines.proofs.Clocks.{clocks, filled_clock}
+use Rattle.pair_deadlines.specs.Closing.{IsHeardSoon, ClosesAreHeard}
 
 true_false : true ≡ false → ⊥
 true_false e = cc

@@ -35,7 +35,7 @@ use Rattle.pair_phases.proofs.Cars.{say_quiet, finish_quiet}
 use Rattle.pair_courses.specs.Courses.{IsAt, AllGoUndisturbed, GoesWell}
 use Rattle.pair_courses.proofs.Courses.{plan_is, car_rests, sessions_go_well}
 use Rattle.pair_causes.proofs.Ends.{HasCause, gone_has_cause, HasCarCause, over_has_cause}
-use Rattle.pair_pauses.specs.Pauses.{IsPausing, Resting, Closing, PausesAt, TimePassesInPauses}
+use Rattle.pair_deadlines.specs.Pauses.{IsPausing, Resting, Closing, PausesAt, TimePassesInPauses}
 
 some_none : {A : Type 0} (a : A) → Some a ≡ None → ⊥
 some_none a e = cc
