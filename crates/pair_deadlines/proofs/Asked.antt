@@ -1,5 +1,5 @@
 -- A request is replied to at once, but for the time in which the contactor closes, whose deadline counts from the request too.
-use Rattle.std.proofs.Common.{◌≡◌, ℕ, ◌+◌, ◌≤◌, Bool, true, false, if◌then◌else◌, List, [], ◌∷◌, ◌++◌, Option, Some, None, Result, Ok, Err, refl, ap, sym, subst, ◌∙◌, ◌⊎◌, inl, inr, arith}
+use Rattle.std.proofs.Common.{◌≡◌, ℕ, ◌+◌, ◌≤◌, Bool, true, false, if◌then◌else◌, List, [], ◌++◌, Option, Some, None, Result, refl, ap, sym, subst, ◌∙◌, ◌⊎◌, inl, inr, arith}
 use Rattle.std.specs.Option.{option_map}
 use Rattle.charge_world.specs.declared.heard.PlantEvent.{PlantEvent}
 use Rattle.charge_world.specs.declared.ports.Order.{Order}
@@ -7,7 +7,6 @@ use Rattle.charge_world.specs.declared.ports.Order.TheVariants as order
 use Rattle.session_words.specs.declared.cause.EndCause.{EndCause}
 use Rattle.session_words.specs.declared.phase.Phase.{Phase}
 use Rattle.session_words.specs.declared.phase.Phase.TheVariants as row
-use Rattle.session_words.specs.declared.phase.Standing.{Standing}
 use Rattle.session_words.specs.declared.phase.Standing.TheVariants as standing
 use Rattle.session_words.specs.declared.plan.CarPlan.{CarPlan}
 use Rattle.session_words.specs.declared.plan.PostPlan.{PostPlan}
@@ -20,7 +19,7 @@ use Rattle.post_spec.specs.Steps.{Event, Bytes, Plant, Clock, Act, Give, Send, A
 use Rattle.station_spec.specs.States.{Session, State, is_done}
 use Rattle.station_spec.specs.Deciding.{decided}
 use Rattle.station_spec.specs.Hearing.{session_opened, with_bytes, hearing}
-use Rattle.station_spec.specs.Judging.{Payload, payload_by, payload_in, wanted, filled, IsRead}
+use Rattle.station_spec.specs.Judging.{Payload, payload_by, payload_in, filled, IsRead}
 use Rattle.station_spec.specs.Acting.{since_order, replied, acted}
 use Rattle.station_spec.specs.Next.{Acts}
 use Rattle.station_spec.specs.Sharing.{Shows}

@@ -1,13 +1,12 @@
 -- In the phases of a session a car that does something goes on by it, and finds the post's contactor open.
-use Rattle.std.proofs.Common.{◌≡◌, ℕ, Bool, true, false, not, ◌&&◌, if◌then◌else◌, List, [], ◌∷◌, ◌++◌, Option, Some, None, refl, ap, sym, subst, ◌∙◌, ◌⊎◌, inl, inr}
+use Rattle.std.proofs.Common.{◌≡◌, ℕ, Bool, true, false, not, ◌&&◌, if◌then◌else◌, List, [], Option, Some, None, refl, ap, sym, ◌∙◌}
 use Rattle.charge_world.specs.declared.ports.Order.{Order}
 use Rattle.session_words.specs.declared.cause.EndCause.{EndCause}
-use Rattle.session_words.specs.declared.cause.EndCause.TheVariants as cause
 use Rattle.session_words.specs.declared.plan.CarPlan.{CarPlan}
 use Rattle.session_words.specs.declared.plan.PostPlan.{PostPlan}
 use Rattle.session_rules.specs.declared.stage.Stage.{Stage}
 use Rattle.post_spec.specs.Codecs as post
-use Rattle.station_spec.specs.States.{Session, State}
+use Rattle.station_spec.specs.States.{State}
 use Rattle.car_rules.specs.declared.stage.CarStage.{CarStage}
 use Rattle.car_spec.specs.Codecs as car
 use Rattle.car_spec.specs.Steps as car_steps
@@ -19,11 +18,11 @@ use Rattle.pair_words.specs.Exchanges.{Both}
 use Rattle.pair_words.specs.Meeting.{Meets}
 use Rattle.pair_words.specs.Laws.{both, has_ended}
 use Rattle.pair_words.proofs.Sessions.{they_meet}
-use Rattle.pair_phases.specs.Ends.{Listens, IsToSay, Awaits, Pauses, IsToFinish}
+use Rattle.pair_phases.specs.Ends.{Listens, IsToSay, IsToFinish}
 use Rattle.pair_phases.specs.Phases.{Begins, IsToOffer, Offered, Offers, Responded, Talks, IsToAsk, Rests, Asks, IsToReply, Closes, Replies, Ends, IsToStop, Stopped, Words, NoneYet, Read, TalksBy, IsIn}
 use Rattle.pair_phases.specs.Acts.{IsPair}
 use Rattle.pair_phases.proofs.Answers.{TakesWords, meets_takes}
-use Rattle.pair_phases.proofs.Cars.{still_acts, ended_acts, ended_reads, finish_reads}
+use Rattle.pair_phases.proofs.Cars.{still_acts, ended_acts, ended_reads}
 use Rattle.pair_courses.proofs.Courses.{talks_live, begins_live}
 use Rattle.pair_contactors.specs.Contactors.{IsClosing}
 use Rattle.pair_contactors.proofs.Contactors.{not_closing}

@@ -1,7 +1,6 @@
 -- The car reads a word, or does something.
-use Rattle.std.proofs.Common.{◌≡◌, ℕ, ◌+◌, ◌≤◌, nat_le, Bool, true, false, if◌then◌else◌, List, [], ◌∷◌, ◌++◌, Option, Some, None, is_some, Result, Ok, Err, refl, ap, sym, subst, ◌∙◌, arith}
+use Rattle.std.proofs.Common.{◌≡◌, ℕ, ◌+◌, ◌≤◌, nat_le, Bool, true, false, if◌then◌else◌, List, [], ◌∷◌, ◌++◌, Option, Some, None, is_some, Result, Ok, refl, ap, sym, subst, ◌∙◌, arith}
 use Rattle.std.proofs.lemmas.Bool.Decides.{nat_tests}
-use Rattle.std.specs.Option.{option_map}
 use Rattle.charge_world.specs.declared.ports.Order.{Order}
 use Rattle.session_words.specs.declared.plan.CarPlan.{CarPlan}
 use Rattle.session_words.specs.Plans.{IsCarPlan}
@@ -13,11 +12,11 @@ use Rattle.station_spec.specs.States as station
 use Rattle.car_rules.specs.Deadlines.{due_at}
 use Rattle.car_spec.specs.Codecs as car
 use Rattle.car_spec.specs.Steps.{Spoken, Act, Seek, Dial, Give, Say, End}
-use Rattle.car_spec.specs.States.{Agenda, Session, State, nothing, is_done}
+use Rattle.car_spec.specs.States.{Session, State, is_done}
 use Rattle.car_spec.specs.Deciding.{decided}
-use Rattle.car_spec.specs.Judging.{Payload, payload_by, payload_in, IsRead}
+use Rattle.car_spec.specs.Judging.{payload_by, payload_in, IsRead}
 use Rattle.car_spec.specs.Next.{MayAct, MayRead}
-use Rattle.pipe_spec.specs.Histories.{Happening, CarReads, CarDoes, moment, car_plan, car_says, to_station, to_car}
+use Rattle.pipe_spec.specs.Histories.{Happening, CarReads, CarDoes, moment, car_plan, to_station, to_car}
 use Rattle.pipe_spec.specs.Turns.{Station, station_state, car_state, CarMayReadBy, CarMayDoBy}
 use Rattle.pair_words.specs.Meeting.{ArePaired}
 use Rattle.pair_phases.specs.Acts.{IsPair}

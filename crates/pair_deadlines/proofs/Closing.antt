@@ -7,15 +7,11 @@ use Rattle.std.specs.Prelude.{slice_get}
 use Rattle.charge_world.specs.declared.heard.PlantEvent.{PlantEvent}
 use Rattle.charge_world.specs.declared.heard.PlantEvent.TheVariants as plant
 use Rattle.charge_world.specs.declared.ports.Order.TheVariants as order
-use Rattle.session_words.specs.declared.phase.Phase.{Phase}
 use Rattle.session_words.specs.declared.phase.Phase.TheVariants as row
-use Rattle.session_words.specs.declared.phase.Standing.{Standing}
 use Rattle.session_words.specs.declared.phase.Standing.TheVariants as standing
 use Rattle.session_words.specs.declared.plan.CarPlan.{CarPlan}
 use Rattle.session_words.specs.declared.plan.PostPlan.{PostPlan}
-use Rattle.contactor.specs.Calls.{standing_heard}
 use Rattle.session_rules.specs.declared.stage.Stage.{Stage}
-use Rattle.session_rules.specs.Stages.{is_waiting}
 use Rattle.plant_sim.specs.Charger.{Charger, later, moved, events, Comes, NoneReached}
 use Rattle.post_spec.specs.Codecs as post
 use Rattle.post_spec.specs.Steps.{Act, Give, Send, Answer, End, Reading}
@@ -45,7 +41,7 @@ use Rattle.pair_requests.specs.Requests.{SaysOrEnds, IsOffered, IsAsked}
 use Rattle.pair_requests.proofs.Does.{posts_do}
 use Rattle.pair_courses.specs.Courses.{IsAt, AllGoUndisturbed, GoesWell}
 use Rattle.pair_courses.proofs.Courses.{sessions_go_well}
-use Rattle.pair_contactors.specs.Contactors.{IsLinked, IsClosing, Stands}
+use Rattle.pair_contactors.specs.Contactors.{IsClosing, Stands}
 use Rattle.pair_contactors.proofs.Waiting.{no_reply}
 use Rattle.pair_contactors.proofs.Places.{contactor_heard, nothing_closes}
 use Rattle.pair_contactors.proofs.Contactors.{not_closing, still_closing, contactors_follow}

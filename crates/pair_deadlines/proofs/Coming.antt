@@ -1,22 +1,17 @@
 -- While a reply comes to the car the deadline of the post counts from now, and so the request that is asked once more is due a pace behind that.
-use Rattle.std.proofs.Common.{◌≡◌, ℕ, ◌+◌, ◌≤◌, Bool, true, false, if◌then◌else◌, List, [], ◌∷◌, ◌++◌, Option, Some, None, refl, ap, sym, subst, ◌∙◌, arith}
+use Rattle.std.proofs.Common.{◌≡◌, ℕ, ◌+◌, ◌≤◌, Bool, true, false, if◌then◌else◌, List, [], Option, Some, None, refl, sym, subst, ◌∙◌, arith}
 use Rattle.std.specs.Option.{option_map}
-use Rattle.charge_world.specs.declared.ports.Order.{Order}
-use Rattle.charge_world.specs.declared.ports.Order.TheVariants as order
 use Rattle.session_words.specs.declared.cause.EndCause.{EndCause}
 use Rattle.session_words.specs.declared.phase.Phase.{Phase}
 use Rattle.session_words.specs.declared.phase.Phase.TheVariants as row
 use Rattle.session_words.specs.declared.plan.CarPlan.{CarPlan}
-use Rattle.session_words.specs.declared.plan.PostPlan.{PostPlan}
 use Rattle.session_words.specs.declared.word.Reply.{Reply}
-use Rattle.session_timers.specs.Due.{never}
 use Rattle.session_rules.specs.Stages.{is_set_up, confirmed_row}
 use Rattle.post_spec.specs.Steps.{Event}
-use Rattle.station_spec.specs.States.{Session, State}
+use Rattle.station_spec.specs.States.{Session}
 use Rattle.station_spec.specs.Hearing.{session_opened, with_bytes}
-use Rattle.station_spec.specs.Acting.{since_order, replied}
+use Rattle.station_spec.specs.Acting.{replied}
 use Rattle.car_rules.specs.declared.stage.CarStage.{CarStage}
-use Rattle.car_rules.specs.Deadlines.{due_at}
 use Rattle.car_rules.specs.Moves.{is_again, stage_behind}
 use Rattle.car_rules.specs.Replies.{reply_cause}
 use Rattle.car_spec.specs.Codecs.{Judged, Chosen, Told, WrongSide, Refused}

@@ -17,7 +17,7 @@ use Rattle.session_rules.specs.Deadlines.{timeout_of}
 use Rattle.post_spec.specs.Codecs as post
 use Rattle.post_spec.specs.Steps.{Event, Bytes, Clock}
 use Rattle.station_spec.specs.States.{Session, State, nothing}
-use Rattle.station_spec.specs.Deciding.{ending_by, due, timing}
+use Rattle.station_spec.specs.Deciding.{ending_by, timing}
 use Rattle.station_spec.specs.Hearing.{session_opened, with_bytes}
 use Rattle.car_rules.specs.declared.deadlines.CarDue.{CarDue}
 use Rattle.car_rules.specs.declared.stage.CarStage.{CarStage}
@@ -28,13 +28,13 @@ use Rattle.car_spec.specs.Codecs as car
 use Rattle.car_spec.specs.States as car_states
 use Rattle.car_spec.specs.Deciding as car_deciding
 use Rattle.car_spec.specs.Hearing as car_hearing
-use Rattle.car_spec.specs.Due.{session_deadlines, all_deadlines}
+use Rattle.car_spec.specs.Due.{session_deadlines}
 use Rattle.pipe_spec.specs.Histories.{Happening, CarComes, ChargerTells, StationHears, CarHears, TimePasses, StationDoes, CarReads, CarDoes, CarGoes, NumberIsDrawn, moment, joined}
 use Rattle.pipe_spec.specs.Turns.{Station, station_state, car_state}
 use Rattle.pipe_spec.specs.Runs.{IsRun, IsWithin}
 use Rattle.pipe_laws.specs.OneMessage.{IsShort}
 use Rattle.pair_phases.specs.Acts.{IsPair}
-use Rattle.pair_undisturbed.specs.Limits.{IsInTime, IsCarInTime}
+use Rattle.pair_undisturbed.specs.Limits.{IsCarInTime}
 use Rattle.pair_undisturbed.specs.Power.{KeepsTime, AllKeepTime}
 use Rattle.pair_undisturbed.proofs.Deadlines.{timely_sessions_end}
 use Rattle.pair_deadlines.specs.Clocks.{ShowMoment}

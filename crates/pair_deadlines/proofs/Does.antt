@@ -1,7 +1,6 @@
 -- The post does something.
-use Rattle.std.proofs.Common.{◌≡◌, ℕ, ◌+◌, ◌≤◌, Bool, true, false, if◌then◌else◌, List, [], ◌∷◌, ◌++◌, Option, Some, None, refl, ap, sym, subst, ◌∙◌}
+use Rattle.std.proofs.Common.{◌≡◌, ℕ, true, List, [], ◌∷◌, ◌++◌, Option, Some, None, refl, sym, subst, ◌∙◌}
 use Rattle.std.proofs.lemmas.List.{append-nil}
-use Rattle.std.specs.Option.{option_map}
 use Rattle.session_words.specs.declared.plan.CarPlan.{CarPlan}
 use Rattle.session_words.specs.declared.plan.PostPlan.{PostPlan}
 use Rattle.post_spec.specs.Codecs as post
@@ -9,7 +8,7 @@ use Rattle.post_spec.specs.Steps.{Act, Give, Send, Answer, End, Reading}
 use Rattle.station_spec.specs.States.{Session, State}
 use Rattle.station_spec.specs.Deciding.{decided}
 use Rattle.station_spec.specs.Judging.{filled}
-use Rattle.station_spec.specs.Acting.{replied, acted}
+use Rattle.station_spec.specs.Acting.{acted}
 use Rattle.station_spec.specs.Next.{Acts}
 use Rattle.station_spec.specs.Sharing.{Shows}
 use Rattle.station_laws.proofs.Decided.{same_session}
@@ -19,9 +18,8 @@ use Rattle.car_spec.specs.States as car_states
 use Rattle.pipe_spec.specs.Histories.{Happening, StationDoes, moment, station_says, to_station, to_car}
 use Rattle.pipe_spec.specs.Turns.{Station, station_state, car_state}
 use Rattle.pair_deeds.specs.Cars as cars
-use Rattle.pair_phases.specs.Ends.{Awaits}
-use Rattle.pair_phases.specs.Phases.{NothingComes, Words, NoneYet, Read}
-use Rattle.pair_phases.specs.Acts.{IsPair, IfRead, SuitsWords}
+use Rattle.pair_phases.specs.Phases.{Words, NoneYet, Read}
+use Rattle.pair_phases.specs.Acts.{IsPair}
 use Rattle.pair_acts.specs.Acts.{IsOfBeginning}
 use Rattle.pair_requests.specs.Requests.{SaysOrEnds, IsOffered, IsAsked}
 use Rattle.pair_requests.proofs.Does.{posts_do}
@@ -32,7 +30,7 @@ use Rattle.pair_deadlines.specs.Paces.{IsSoonBehind}
 use Rattle.pair_deadlines.proofs.Pacing.{IsRepeated, AgainBy, PacedBy, IsPaced}
 use Rattle.pair_deadlines.proofs.Since.{does_since}
 use Rattle.pair_deadlines.proofs.Asked.{asked_on, does_asked}
-use Rattle.pair_deadlines.proofs.Coming.{SetUpSince, HasSomeUnread, IsComing, coming_said, some_unread, AgainSoon, AgainIn, again_said, again_gone, again_none}
+use Rattle.pair_deadlines.proofs.Coming.{HasSomeUnread, IsComing, coming_said, some_unread, AgainSoon, AgainIn, again_said, again_gone, again_none}
 use Rattle.pair_deadlines.proofs.CarMoves.{begins_unstaged}
 use Rattle.pair_deadlines.proofs.Waits.{does_waits, gives_by_reading}
 use Rattle.pair_deadlines.proofs.Held.{Holds, Known}

@@ -1,9 +1,9 @@
 -- The charger tells something, or a piece of what is under way is heard.
-use Rattle.std.proofs.Common.{◌≡◌, ℕ, ◌+◌, Bool, true, false, if◌then◌else◌, List, [], ◌∷◌, ◌++◌, length, drop, Option, Some, None, refl, subst}
+use Rattle.std.proofs.Common.{◌≡◌, ℕ, List, [], ◌∷◌, length, drop, None, refl, subst}
 use Rattle.charge_world.specs.declared.heard.PlantEvent.{PlantEvent}
 use Rattle.session_words.specs.declared.plan.CarPlan.{CarPlan}
 use Rattle.post_spec.specs.Codecs as post
-use Rattle.post_spec.specs.Steps.{Event, Bytes, Plant, Clock}
+use Rattle.post_spec.specs.Steps.{Event, Bytes}
 use Rattle.station_spec.specs.States.{State}
 use Rattle.station_spec.specs.Next.{IsQuiet}
 use Rattle.car_spec.specs.Codecs as car

@@ -1,17 +1,12 @@
 -- One induction over the first session.
-use Rattle.std.proofs.Common.{◌≡◌, ℕ, ◌+◌, ◌≤◌, Bool, true, false, List, [], ◌∷◌, ◌++◌, Option, Some, None, refl, ap, sym, subst, ◌∙◌, arith}
+use Rattle.std.proofs.Common.{◌≡◌, ℕ, ◌≤◌, true, false, List, [], ◌∷◌, ◌++◌, Option, Some, None, refl, sym, subst, arith}
 use Rattle.std.specs.List.{AllByRecursion}
-use Rattle.std.specs.Prelude.{slice_get}
-use Rattle.session_words.specs.declared.phase.Standing.{Standing}
-use Rattle.session_words.specs.declared.phase.Standing.TheVariants as standing
 use Rattle.session_words.specs.declared.plan.CarPlan.{CarPlan}
-use Rattle.plant_sim.specs.Charger.{Charger}
 use Rattle.post_spec.specs.Codecs as post
-use Rattle.station_spec.specs.States.{Session}
 use Rattle.car_spec.specs.Codecs as car
 use Rattle.car_spec.specs.States as car_states
 use Rattle.pipe_spec.specs.Histories.{Happening, CarComes, ChargerTells, StationHears, CarHears, TimePasses, StationDoes, CarReads, CarDoes, CarGoes, NumberIsDrawn, moment, joined, token, car_plan, car_cause}
-use Rattle.pipe_spec.specs.Turns.{Station, station_state, car_state, MayTurn, Follows}
+use Rattle.pipe_spec.specs.Turns.{Station, station_state, car_state, MayTurn}
 use Rattle.pipe_spec.specs.Runs.{IsRun, IsWithin}
 use Rattle.pipe_laws.specs.OneMessage.{IsShort}
 use Rattle.pipe_laws.specs.PipePasts.{IsFirst}
@@ -20,9 +15,8 @@ use Rattle.pipe_laws.proofs.Runs.{EndedBy}
 use Rattle.pair_words.specs.Laws.{both}
 use Rattle.pair_words.proofs.Sessions.{they_meet}
 use Rattle.pair_phases.specs.Acts.{IsPair}
-use Rattle.pair_courses.specs.Courses.{AllGoUndisturbed, GoesUndisturbed, GoesWell}
+use Rattle.pair_courses.specs.Courses.{AllGoUndisturbed}
 use Rattle.pair_courses.proofs.Courses.{plan_is, sessions_go_well}
-use Rattle.pair_contactors.specs.Contactors.{Stands}
 use Rattle.pair_contactors.proofs.Contactors.{contactors_follow}
 use Rattle.pair_undisturbed.specs.Power.{AllKeepTime}
 use Rattle.pair_undisturbed.proofs.Deadlines.{timely_sessions_are_undisturbed}
@@ -30,8 +24,6 @@ use Rattle.pair_deadlines.specs.Clocks.{ShowMoment}
 use Rattle.pair_deadlines.specs.Pauses.{PausesAt}
 use Rattle.pair_deadlines.proofs.Clocks.{clocks}
 use Rattle.pair_deadlines.proofs.Pauses.{time_passes_in_pauses}
-use Rattle.pair_deadlines.specs.Bounds.{IsBounded}
-use Rattle.pair_deadlines.specs.Closing.{IsHeardSoon}
 use Rattle.pair_deadlines.proofs.Bounds.{bounded}
 use Rattle.pair_deadlines.proofs.Closing.{closes_are_heard}
 use Rattle.pair_deadlines.specs.Paces.{IsFresh, IsFreshIn, KeepsPace, SessionsKeepPace}

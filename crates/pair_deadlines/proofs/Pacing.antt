@@ -1,13 +1,12 @@
 -- A car that waits for nothing and says nothing is to ask once more, and not before it is due.
-use Rattle.std.proofs.Common.{◌≡◌, ℕ, ◌+◌, Bool, true, false, not, ◌&&◌, if◌then◌else◌, List, [], ◌∷◌, ◌++◌, Option, Some, None, is_some, refl, ap, sym, subst, ◌∙◌, Ok}
+use Rattle.std.proofs.Common.{◌≡◌, ℕ, Bool, true, false, not, ◌&&◌, if◌then◌else◌, List, [], Option, Some, None, is_some, refl, ap, sym, subst, ◌∙◌}
 use Rattle.std.specs.Option.{option_map}
 use Rattle.charge_world.specs.declared.ports.Order.{Order}
 use Rattle.session_words.specs.declared.cause.EndCause.{EndCause}
 use Rattle.session_words.specs.declared.plan.CarPlan.{CarPlan}
 use Rattle.session_words.specs.declared.word.Reply.{Reply}
-use Rattle.session_timers.specs.Due.{never}
 use Rattle.v2gtp_frames.specs.Reading.{whole_at}
-use Rattle.post_spec.specs.Steps.{Event, Bytes, Clock}
+use Rattle.post_spec.specs.Steps.{Event}
 use Rattle.car_rules.specs.declared.stage.CarPhase.{CarPhase}
 use Rattle.car_rules.specs.declared.stage.CarPhase.TheVariants as phase
 use Rattle.car_rules.specs.declared.stage.CarStage.{CarStage}
@@ -18,7 +17,7 @@ use Rattle.car_spec.specs.Codecs.{Judged, Chosen, Told, WrongSide, Refused}
 use Rattle.car_spec.specs.Steps.{Spoken}
 use Rattle.car_spec.specs.States.{Agenda, Part, Unheard, Timing, Eventing, Wording, Session, State, Todo, nothing, is_done, first, first_of, is_none}
 use Rattle.car_spec.specs.Due.{is_due}
-use Rattle.car_spec.specs.Deciding.{ending_by, timing, eventing, fronting, is_whole, has_word, asking, repeating, seeking, decide, from_seeking, from_repeating, from_wording, from_nothing, from_eventing, from_timing, from_part, decided}
+use Rattle.car_spec.specs.Deciding.{ending_by, timing, eventing, fronting, is_whole, has_word, asking, repeating, decide, from_seeking, from_repeating, from_wording, from_eventing, from_part, decided}
 use Rattle.car_spec.specs.Acting.{awaiting}
 use Rattle.car_spec.specs.Hearing.{session_heard}
 use Rattle.car_spec.specs.Judging.{moved, replied_by, replied, judged, judged_in}

@@ -5,8 +5,8 @@ use Rattle.session_words.specs.declared.plan.CarPlan.{CarPlan}
 use Rattle.session_words.specs.Plans.{IsCarPlan}
 use Rattle.session_rules.specs.Stages.{is_set_up}
 use Rattle.post_spec.specs.Codecs as post
-use Rattle.post_spec.specs.Steps.{Event, Clock}
-use Rattle.station_spec.specs.States.{Session, State}
+use Rattle.post_spec.specs.Steps.{Clock}
+use Rattle.station_spec.specs.States.{State}
 use Rattle.station_spec.specs.Hearing.{hearing}
 use Rattle.station_spec.specs.Next.{IsQuiet}
 use Rattle.car_rules.specs.declared.stage.CarPhase.{CarPhase}
@@ -16,16 +16,16 @@ use Rattle.car_rules.specs.Replies.{is_setting_up}
 use Rattle.car_spec.specs.Codecs as car
 use Rattle.car_spec.specs.States as car_states
 use Rattle.car_spec.specs.Hearing as car_hearing
-use Rattle.pipe_spec.specs.Histories.{Happening, TimePasses, moment, car_plan, car_cause, car_has_ended, station_has_ended, car_steps, station_hearings, car_hearings, to_station, to_car}
-use Rattle.pipe_spec.specs.Turns.{Station, station_state, car_state, BothRest, MayTurn, nothing_under_way, car_is_spent, is_over}
+use Rattle.pipe_spec.specs.Histories.{Happening, TimePasses, moment, car_plan, car_cause, car_has_ended, station_has_ended, car_steps, station_hearings, car_hearings, to_station}
+use Rattle.pipe_spec.specs.Turns.{Station, station_state, car_state, BothRest, MayTurn, car_is_spent, is_over}
 use Rattle.pair_words.specs.Meeting.{ArePaired}
 use Rattle.pair_phases.specs.Acts.{IsPair}
 use Rattle.pair_deadlines.specs.Bounds.{IsBounded}
-use Rattle.pair_deadlines.specs.Paces.{IsSoonBehind, IsSetUpAtOnce}
+use Rattle.pair_deadlines.specs.Paces.{IsSetUpAtOnce}
 use Rattle.pair_deadlines.proofs.Pacing.{IsPaced}
 use Rattle.pair_deadlines.proofs.Since.{IsSoonPassed, passes_since}
-use Rattle.pair_deadlines.proofs.Asked.{AskedBy, AskedIn, IsAsked, asked_on, passes_asked, car_hears_asked}
-use Rattle.pair_deadlines.proofs.Coming.{SetUpSince, HasSomeUnread, IsComing, AgainSoon, AgainIn, again_heard, car_hears_again}
+use Rattle.pair_deadlines.proofs.Asked.{AskedBy, AskedIn, asked_on, passes_asked, car_hears_asked}
+use Rattle.pair_deadlines.proofs.Coming.{HasSomeUnread, AgainSoon, AgainIn, again_heard, car_hears_again}
 use Rattle.pair_deadlines.proofs.Setup.{passes_setup}
 use Rattle.pair_deadlines.proofs.Waits.{passes_waits}
 use Rattle.pair_deadlines.proofs.Passing.{IsResting, IsInClosing, IsPassing, Rests, Closes}

@@ -1,8 +1,7 @@
 -- When time passes: a car rests until it is to ask once more, or the post's contactor closes for a short while.
-use Rattle.std.proofs.Common.{◌≡◌, ℕ, ◌+◌, ◌<◌, ◌≤◌, nat_le, Bool, true, false, List, [], ◌∷◌, ◌++◌, Option, Some, None, is_some, refl, ap, sym, subst, ◌∙◌, arith}
+use Rattle.std.proofs.Common.{◌≡◌, ℕ, ◌+◌, ◌<◌, ◌≤◌, nat_le, true, false, [], Option, Some, None, is_some, refl, ap, sym, subst, ◌∙◌, arith}
 use Rattle.std.proofs.lemmas.Bool.Decides.{nat_tests}
 use Rattle.std.specs.Prelude.{slice_get}
-use Rattle.session_words.specs.declared.phase.Standing.{Standing}
 use Rattle.session_words.specs.declared.phase.Standing.TheVariants as standing
 use Rattle.session_words.specs.declared.plan.CarPlan.{CarPlan}
 use Rattle.session_words.specs.declared.plan.PostPlan.{PostPlan}
@@ -10,12 +9,9 @@ use Rattle.plant_sim.specs.Charger.{Charger, NoneReached}
 use Rattle.session_rules.specs.declared.stage.Stage.{Stage}
 use Rattle.session_rules.specs.Stages.{is_set_up, is_waiting}
 use Rattle.station_spec.specs.States.{Session, State, first}
-use Rattle.station_spec.specs.Deciding.{decided}
-use Rattle.car_rules.specs.declared.stage.CarPhase.{CarPhase}
 use Rattle.car_rules.specs.declared.stage.CarPhase.TheVariants as phase
 use Rattle.car_rules.specs.declared.stage.CarStage.{CarStage}
 use Rattle.car_rules.specs.Moves.{is_again}
-use Rattle.car_rules.specs.Replies.{is_setting_up}
 use Rattle.car_spec.specs.States as car_states
 use Rattle.car_spec.specs.Due.{is_due}
 use Rattle.pair_words.specs.Exchanges.{Both, judged}

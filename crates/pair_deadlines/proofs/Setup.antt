@@ -24,7 +24,7 @@ use Rattle.car_spec.specs.States.{Session, State, is_done}
 use Rattle.car_spec.specs.Deciding.{decided}
 use Rattle.car_spec.specs.Acting.{awaiting}
 use Rattle.car_spec.specs.Hearing.{session_heard}
-use Rattle.car_spec.specs.Judging.{Payload, dialect_of, payload_by, payload_in, wanted, moved, replied_by, replied, judged, judged_in, IsRead}
+use Rattle.car_spec.specs.Judging.{dialect_of, payload_by, payload_in, moved, replied_by, replied, judged, judged_in, IsRead}
 use Rattle.car_spec.specs.Next.{MayRead}
 use Rattle.pair_phases.proofs.Cars.{same_session}
 use Rattle.pair_deadlines.specs.Paces.{IsSetUpAtOnce}

@@ -1,5 +1,5 @@
 -- A post whose row waits, and which has nothing to do, has a contactor that closes.
-use Rattle.std.proofs.Common.{◌≡◌, ℕ, Bool, true, false, ◌&&◌, if◌then◌else◌, List, [], ◌∷◌, ◌++◌, Option, Some, None, refl, ap, sym, subst, ◌∙◌, ◌⊎◌, inl, inr}
+use Rattle.std.proofs.Common.{◌≡◌, ℕ, Bool, true, false, ◌&&◌, if◌then◌else◌, List, [], ◌∷◌, Option, Some, None, refl, ap, sym, subst, ◌∙◌, ◌⊎◌, inl, inr}
 use Rattle.std.specs.Option.{option_map}
 use Rattle.charge_world.specs.declared.heard.PlantEvent.{PlantEvent}
 use Rattle.charge_world.specs.declared.heard.PlantEvent.TheVariants as plant
@@ -14,18 +14,16 @@ use Rattle.session_rules.specs.declared.stage.Stage.{Stage}
 use Rattle.session_rules.specs.Orders.{order_of}
 use Rattle.session_rules.specs.Reply.{waiting_reply}
 use Rattle.session_rules.specs.Stages.{is_waiting}
-use Rattle.session_rules.specs.Verdict.{verdict}
 use Rattle.post_spec.specs.Codecs as post
-use Rattle.post_spec.specs.Steps.{Event, Bytes, Plant, Clock, Act, Give, Send, Answer, End, Reading}
+use Rattle.post_spec.specs.Steps.{Bytes, Plant, Clock, Act, Give, Send, Answer, End, Reading}
 use Rattle.station_spec.specs.States.{Said, Agenda, Todo, Session, State, nothing, first}
 use Rattle.station_spec.specs.States as states
 use Rattle.station_spec.specs.Deciding.{confirms, confirming, charging, charging_by, eventing, decided}
 use Rattle.station_spec.specs.Hearing.{session_opened, with_bytes, hearing}
 use Rattle.station_spec.specs.Judging.{order_by, filled}
-use Rattle.station_spec.specs.Acting.{since_order, replied, acted}
+use Rattle.station_spec.specs.Acting.{since_order, acted}
 use Rattle.station_spec.specs.Next.{Acts}
 use Rattle.station_spec.specs.Sharing.{Shows}
-use Rattle.car_rules.specs.declared.stage.CarPhase.TheVariants as phase
 use Rattle.car_spec.specs.Codecs as car
 use Rattle.pipe_spec.specs.Histories.{Happening, StationDoes, token, to_station, to_car}
 use Rattle.pipe_spec.specs.Turns.{Station, station_state, car_state}
