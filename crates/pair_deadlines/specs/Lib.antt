@@ -1,0 +1,6 @@
+pub mod Pauses
+pub mod Clocks
+pub mod Closing
+pub mod Bounds
+pub mod Paces
+pub mod Steps

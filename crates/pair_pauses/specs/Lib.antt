@@ -1,2 +1,0 @@
-pub mod Pauses
-pub mod Clocks
