@@ -34,9 +34,9 @@ use Rattle.pipe_spec.specs.Turns.{Station, station_state, car_state}
 use Rattle.pipe_spec.specs.Runs.{IsRun, IsWithin}
 use Rattle.pipe_laws.specs.OneMessage.{IsShort}
 use Rattle.pair_phases.specs.Acts.{IsPair}
-use Rattle.pair_undisturbed.specs.Limits.{IsCarInTime}
-use Rattle.pair_undisturbed.specs.Power.{KeepsTime, AllKeepTime}
-use Rattle.pair_undisturbed.proofs.Deadlines.{timely_sessions_end}
+use Rattle.pair_deadlines.specs.Limits.{IsCarInTime}
+use Rattle.pair_deadlines.specs.Power.{KeepsTime, AllKeepTime}
+use Rattle.pair_deadlines.proofs.Timely.{timely_sessions_end}
 use Rattle.pair_deadlines.specs.Clocks.{ShowMoment}
 use Rattle.pair_deadlines.proofs.Clocks.{clocks}
 use Rattle.pair_deadlines.specs.Paces.{IsSoonBehind, IsFresh, IsFreshIn, IsSetUpAtOnce, KeepsPace}

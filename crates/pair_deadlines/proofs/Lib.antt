@@ -1,3 +1,10 @@
+pub mod Beginning
+pub mod Events
+pub mod Undisturbed
+pub mod Watts
+pub mod Exchanges
+pub mod Power
+pub mod Timely
 pub mod Clocks
 pub mod Pauses
 pub mod Bounds

@@ -18,8 +18,8 @@ use Rattle.pair_phases.specs.Acts.{IsPair}
 use Rattle.pair_courses.specs.Courses.{AllGoUndisturbed}
 use Rattle.pair_courses.proofs.Courses.{plan_is, sessions_go_well}
 use Rattle.pair_contactors.proofs.Contactors.{contactors_follow}
-use Rattle.pair_undisturbed.specs.Power.{AllKeepTime}
-use Rattle.pair_undisturbed.proofs.Deadlines.{timely_sessions_are_undisturbed}
+use Rattle.pair_deadlines.specs.Power.{AllKeepTime}
+use Rattle.pair_deadlines.proofs.Timely.{timely_sessions_are_undisturbed}
 use Rattle.pair_deadlines.specs.Clocks.{ShowMoment}
 use Rattle.pair_deadlines.specs.Pauses.{PausesAt}
 use Rattle.pair_deadlines.proofs.Clocks.{clocks}

@@ -1,3 +1,6 @@
+pub mod Limits
+pub mod Power
+pub mod Timely
 pub mod Pauses
 pub mod Clocks
 pub mod Closing

@@ -13,7 +13,7 @@ use Rattle.pipe_spec.specs.Turns.{Station, station_state, car_state}
 use Rattle.pipe_laws.specs.OneMessage.{IsShort}
 use Rattle.pipe_laws.specs.PipePasts.{IsFirst}
 use Rattle.pair_phases.specs.Acts.{IsPair}
-use Rattle.pair_undisturbed.specs.Power.{AllKeepTime}
+use Rattle.pair_deadlines.specs.Power.{AllKeepTime}
 
 -- the deadline of a post counts from a moment that is past, by 1,010 ms at most: a car's pace, and a tick
 abbrev pub IsSoonBehind : ℕ → Option Session → Type 0

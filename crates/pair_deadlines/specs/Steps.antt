@@ -16,7 +16,7 @@ use Rattle.pipe_laws.specs.OneMessage.{IsShort}
 use Rattle.pipe_laws.specs.PipePasts.{IsFirst}
 use Rattle.pair_phases.specs.Acts.{IsPair}
 use Rattle.pair_causes.specs.Causes.{HasEndedByStop}
-use Rattle.pair_undisturbed.specs.Power.{AllKeepTime}
+use Rattle.pair_deadlines.specs.Power.{AllKeepTime}
 
 -- the deadline of its step, where that has one
 abbrev pub step_deadline : Option Session → Option CarDue

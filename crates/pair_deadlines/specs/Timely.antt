@@ -12,7 +12,7 @@ use Rattle.pipe_laws.specs.PipePasts.{IsFirst}
 use Rattle.pair_phases.specs.Acts.{IsPair}
 use Rattle.pair_courses.specs.Courses.{AllGoUndisturbed}
 use Rattle.pair_causes.specs.Causes.{HasEndedByStop}
-use Rattle.pair_undisturbed.specs.Power.{AllKeepTime}
+use Rattle.pair_deadlines.specs.Power.{AllKeepTime}
 
 -- 65,544: the bytes of the longest frame that is read
 abbrev pub TimelySessionsAreUndisturbed : post.Codecs → car.Codecs → Type 0

@@ -31,7 +31,7 @@ use Rattle.pair_words.specs.Meeting.{IsRowFor, Meets}
 use Rattle.pair_words.specs.Laws.{end_of, IsAnswered}
 use Rattle.pair_contactors.specs.Contactors.{is_late}
 use Rattle.pair_contactors.proofs.Rows.{is_from_start, late_behind, accepts, moves}
-use Rattle.pair_undisturbed.proofs.Watts.{IsZero, WithinTold, current_within}
+use Rattle.pair_deadlines.proofs.Watts.{IsZero, WithinTold, current_within}
 
 false_true : false ≡ true → ⊥
 false_true e = cc

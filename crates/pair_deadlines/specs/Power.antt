@@ -11,7 +11,7 @@ use Rattle.pipe_spec.specs.Turns.{Station, station_state, car_state}
 use Rattle.pipe_laws.specs.OneMessage.{IsShort}
 use Rattle.pipe_laws.specs.PipePasts.{IsFirst}
 use Rattle.pair_phases.specs.Acts.{IsPair}
-use Rattle.pair_undisturbed.specs.Limits.{IsInTime, IsCarInTime, AllKeepLimits}
+use Rattle.pair_deadlines.specs.Limits.{IsInTime, IsCarInTime, AllKeepLimits}
 
 -- no deadline is reached
 abbrev pub KeepsTime : Station → CarPlan → List Happening → Happening → Type 0

@@ -1,10 +1,10 @@
 -- A session in which no deadline is reached.
 use Rattle.post_spec.specs.Codecs as post
 use Rattle.car_spec.specs.Codecs as car
-use Rattle.pair_undisturbed.proofs.Undisturbed.{sessions_are_undisturbed}
-use Rattle.pair_undisturbed.proofs.Power.{powers_are_within}
+use Rattle.pair_deadlines.proofs.Undisturbed.{sessions_are_undisturbed}
+use Rattle.pair_deadlines.proofs.Power.{powers_are_within}
 use Rattle.pair_causes.proofs.Causes.{sessions_end_by_stop}
-use Rattle.pair_undisturbed.specs.Deadlines.{TimelySessionsAreUndisturbed, TimelySessionsEnd}
+use Rattle.pair_deadlines.specs.Timely.{TimelySessionsAreUndisturbed, TimelySessionsEnd}
 
 pub timely_sessions_are_undisturbed : (c : post.Codecs) (cs : car.Codecs) → TimelySessionsAreUndisturbed c cs
 timely_sessions_are_undisturbed c cs st plan h p f l d = sessions_are_undisturbed c cs st plan h p f l (powers_are_within c cs st plan h p f l d)

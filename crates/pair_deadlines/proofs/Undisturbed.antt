@@ -43,9 +43,9 @@ use Rattle.pair_courses.specs.Courses.{IsAt, AllGoUndisturbed, GoesUndisturbed}
 use Rattle.pair_contactors.specs.Contactors.{is_late, IsLateIn, IsLate, Stands}
 use Rattle.pair_contactors.proofs.Contactors.{tells_on, contactors_follow}
 use Rattle.pair_contactors.proofs.Rows.{early_at_start}
-use Rattle.pair_undisturbed.specs.Limits.{IsWithin, KeepsLimits, AllKeepLimits, SessionsAreUndisturbed}
-use Rattle.pair_undisturbed.proofs.Beginning.{has_heard, IsNewIn, Begins, new_heard, new_reads, begins_in}
-use Rattle.pair_undisturbed.proofs.Events.{never_failed, no_cause}
+use Rattle.pair_deadlines.specs.Limits.{IsWithin, KeepsLimits, AllKeepLimits, SessionsAreUndisturbed}
+use Rattle.pair_deadlines.proofs.Beginning.{has_heard, IsNewIn, Begins, new_heard, new_reads, begins_in}
+use Rattle.pair_deadlines.proofs.Events.{never_failed, no_cause}
 
 true_false : true ≡ false → ⊥
 true_false e = cc

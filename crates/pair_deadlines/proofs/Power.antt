@@ -51,12 +51,12 @@ use Rattle.pair_requests.proofs.Does.{posts_do}
 use Rattle.pair_requests.proofs.Keeps.{posts_keep}
 use Rattle.pair_courses.specs.Courses.{IsAt, AllGoUndisturbed, GoesUndisturbed, GoesWell}
 use Rattle.pair_courses.proofs.Courses.{sessions_go_well}
-use Rattle.pair_undisturbed.specs.Limits as limits
-use Rattle.pair_undisturbed.specs.Limits.{KeepsLimits, AllKeepLimits}
-use Rattle.pair_undisturbed.proofs.Undisturbed.{sessions_are_undisturbed}
-use Rattle.pair_undisturbed.specs.Power.{KeepsTime, AllKeepTime, PowersAreWithin}
-use Rattle.pair_undisturbed.proofs.Watts.{IsZero, Volts, moved_within, measured_is, is_no_cause}
-use Rattle.pair_undisturbed.proofs.Exchanges.{is_power, power_confirmed, NoLimits, IsPowered, limited, unlimited}
+use Rattle.pair_deadlines.specs.Limits as limits
+use Rattle.pair_deadlines.specs.Limits.{KeepsLimits, AllKeepLimits}
+use Rattle.pair_deadlines.proofs.Undisturbed.{sessions_are_undisturbed}
+use Rattle.pair_deadlines.specs.Power.{KeepsTime, AllKeepTime, PowersAreWithin}
+use Rattle.pair_deadlines.proofs.Watts.{IsZero, Volts, moved_within, measured_is, is_no_cause}
+use Rattle.pair_deadlines.proofs.Exchanges.{is_power, power_confirmed, NoLimits, IsPowered, limited, unlimited}
 
 true_false : true ≡ false → ⊥
 true_false e = cc

@@ -16,7 +16,7 @@ use Rattle.plant_sim.specs.Charger.{Charger, moved, events, IsFirst, Comes}
 use Rattle.station_spec.specs.States.{Session, State, nothing}
 use Rattle.station_spec.specs.Deciding.{repeating, watch}
 use Rattle.pair_contactors.specs.Contactors.{IsLinked}
-use Rattle.pair_undisturbed.specs.Limits.{IsWithin}
+use Rattle.pair_deadlines.specs.Limits.{IsWithin}
 
 some_event : (a b : PlantEvent) → Some a ≡ Some b → a ≡ b
 some_event a b e = cc
