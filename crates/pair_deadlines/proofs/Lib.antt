@@ -18,3 +18,4 @@ pub mod Does
 pub mod Cars
 pub mod Paces
 pub mod Deadlines
+pub mod Told

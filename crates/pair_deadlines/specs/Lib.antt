@@ -4,3 +4,4 @@ pub mod Closing
 pub mod Bounds
 pub mod Paces
 pub mod Steps
+pub mod Told
