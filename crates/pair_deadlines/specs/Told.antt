@@ -16,4 +16,5 @@ use Rattle.pair_courses.specs.Courses.{AllGoUndisturbed}
 -- 65,544: the bytes of the longest frame that is read
 abbrev pub WordsAreTold : post.Codecs → car.Codecs → Type 0
 WordsAreTold c cc = (st : Station) (plan : CarPlan) (h : List Happening) (reading : Reading) (act : Act) → IsPair c cc st.post (joined plan)
-    → IsFirst c cc st plan h → AllByRecursion (IsShort 65544) h → AllGoUndisturbed c cc st (joined plan) h → StationMayDo c st h (Some reading) act → is_told h ≡ true
+    → IsFirst c cc st plan h → AllByRecursion (IsShort 65544) h → AllGoUndisturbed c cc st (joined plan) h
+    → StationMayDo c st h (Some reading) act → is_told h ≡ true
