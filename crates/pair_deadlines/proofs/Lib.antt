@@ -25,3 +25,4 @@ pub mod Does
 pub mod Cars
 pub mod Paces
 pub mod Deadlines
+pub mod Told

@@ -7,3 +7,4 @@ pub mod Closing
 pub mod Bounds
 pub mod Paces
 pub mod Steps
+pub mod Told

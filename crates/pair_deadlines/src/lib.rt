@@ -11,7 +11,8 @@
 //! which its deadline counts, so that this isn't reached); `moments_are_bounded` (a session lasts ten milliseconds a hearing at most, and its car came at 0);
 //! `sessions_keep_pace` (the moment from which the deadline of the post counts is past by 1,010 ms at most, a request that has no reply yet was said 60 ms
 //! before at most, and SessionSetup is replied to at 0) and `deadlines_are_kept` (so neither the deadlines of the post are reached nor those of the car for its
-//! connection and for a reply); `steady_sessions_end` (a session that is over then, but for the turns of a plan, has ended by SessionStop at both ends).
+//! connection and for a reply); `steady_sessions_end` (a session that is over then, but for the turns of a plan, has ended by SessionStop at both ends);
+//! `words_are_told` (a post reads a word only behind a turn that brought bytes to an end, so that nothing of its charger was due).
 #![tactic(auto)]
 
 ghost use Rattle.car_spec.specs.Codecs as car;
@@ -24,6 +25,7 @@ ghost use Rattle.pair_deadlines.specs.Steps.{DeadlinesAreKept, SteadySessionsEnd
 ghost use Rattle.pair_deadlines.specs.Limits.{SessionsAreUndisturbed};
 ghost use Rattle.pair_deadlines.specs.Power.{PowersAreWithin};
 ghost use Rattle.pair_deadlines.specs.Timely.{TimelySessionsAreUndisturbed, TimelySessionsEnd};
+ghost use Rattle.pair_deadlines.specs.Told.{WordsAreTold};
 ghost use Rattle.post_spec.specs.Codecs as post;
 
 use car_spec::CarCoded;
@@ -82,4 +84,9 @@ pub fn deadlines_are_kept<C: Coded, D: CarCoded>()
 /// So a session that is over, but for the turns of a plan, has ended by SessionStop at both ends.
 pub fn steady_sessions_end<C: Coded, D: CarCoded>()
     ensures { SteadySessionsEnd (post.codecs C.negotiates C.reads C.encodes) (car.codecs D.offers D.responds D.reads D.encodes) }
+{}
+
+/// A post reads a word only behind a turn that brought bytes to an end.
+pub fn words_are_told<C: Coded, D: CarCoded>()
+    ensures { WordsAreTold (post.codecs C.negotiates C.reads C.encodes) (car.codecs D.offers D.responds D.reads D.encodes) }
 {}
