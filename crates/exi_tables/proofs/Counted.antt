@@ -11,9 +11,9 @@ use Rattle.exi_schema.specs.declared.tables.Declaration.{Declaration}
 use Rattle.exi_schema.specs.declared.tables.Declaration.TheVariants.{Complex}
 use Rattle.exi_schema.specs.declared.tables.Particle.{Particle}
 use Rattle.exi_schema.specs.declared.places.Place.{Place}
-use Rattle.exi_schema.specs.Offers.{FitsCopies, FitsParticles, IsPlaceIn, IsPlaceOf, IsPlace}
+use Rattle.exi_schema.specs.Offers.{FitsCopies, FitsParticles, IsPlaceIn}
 use Rattle.exi_schema.proofs.Conditions.{and-l, and-r, complex_in}
-use Rattle.exi_schema.proofs.Fitting.{fit_drop, fits_first}
+use Rattle.exi_schema.proofs.Fitting.{fit_drop}
 use Rattle.exi_tables.specs.Counts.{attribute_places, particle_places, copies_within, copies_before, copy_places}
 
 -- ---- the counts tell the places
@@ -71,21 +71,6 @@ few_places s kind (containing attributes particles) there =
       copies = λ at. before_small (length s.names) (length s.kinds) (drop at particles)
           (fit_drop (is_particle (length s.names) (length s.kinds)) particles at good.particles_fit);
     }
-
--- ---- before the first copy of each particle is a place
-
-first_in : (s : PlainSchema) (kind particle : ℕ) (d : PlainKind) → slice_get s.kinds kind ≡ Some d → particle < particle_places d →
-    IsPlaceIn (record { kind = kind; particle = particle; copies = 0; attributes = 0 }) d
-first_in s kind particle (valued datatype) there low = (refl, omega (arith, low), refl)
-first_in s kind particle (containing attributes particles) there low =
-    let fit = fit_drop (is_particle (length s.names) (length s.kinds)) particles particle (complex_in s kind attributes particles there).particles_fit in
-    (omega arith, omega (arith, low), fits_first (length s.names) (length s.kinds) (drop particle particles) fit)
-
-pub first_place : (s : PlainSchema) (kind particle : ℕ) (d : PlainKind) → slice_get s.kinds kind ≡ Some d → particle < particle_places d →
-    IsPlace s.kinds (record { kind = kind; particle = particle; copies = 0; attributes = 0 })
-first_place s kind particle d there low =
-    let P : Option PlainKind → Type 0 = λ o. IsPlaceOf (record { kind = kind; particle = particle; copies = 0; attributes = 0 }) o in
-    subst P (sym there) (first_in s kind particle d there low)
 
 -- ---- the particle of a table
 

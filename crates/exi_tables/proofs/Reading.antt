@@ -1,5 +1,5 @@
 -- What is read at each step on the way to the row of a place.
-use Rattle.std.proofs.Common.{◌≡◌, ℕ, ◌<◌, List, length, get_or, Vec, arith, min, subst, sym}
+use Rattle.std.proofs.Common.{◌≡◌, ℕ, ◌<◌, List, length, get_or, Vec, arith, min}
 use Rattle.std.specs.declared.alloc.Global.{Global}
 use Rattle.exi_schema.specs.Schemas.{PlainSchema}
 use Rattle.exi_schema.specs.Plain.{PlainKind}
@@ -8,7 +8,7 @@ use Rattle.exi_schema.specs.Offers.{IsPlace}
 use Rattle.exi_schema.proofs.Conditions.{place_within}
 use Rattle.exi_tables.specs.declared.filling.KindTable.{KindTable}
 use Rattle.exi_tables.specs.declared.filling.Row.{Row}
-use Rattle.exi_tables.specs.Filled.{IsRow, HoldsFirsts, HoldsCopies, HoldsParticles, HoldsAttributes, IsKindTable, HoldsKinds}
+use Rattle.exi_tables.specs.Filled.{IsRow, HoldsCopies, HoldsParticles, HoldsAttributes, IsKindTable, HoldsKinds}
 use Rattle.exi_tables.proofs.Counted.{IsCounted, place_counted}
 use Rattle.exi_tables.proofs.Offered.{declaration_at}
 use Rattle.exi_tables.proofs.Tables.{table_at}
@@ -18,30 +18,6 @@ pub table_of : (s : PlainSchema) (kind : ℕ) (tables : List KindTable) (table :
     table ≡ get_or tables kind table → IsKindTable s kind table
 table_of s kind tables table within short holds found =
     let low : kind < min (length s.kinds) 65536 = omega (arith, within, short) in table_at _ _ tables kind table holds low found
-
--- the declaration of a place, and the rows of its kind where neither an attribute nor a copy is passed
-pub record IsAtFirsts (s : PlainSchema) (place : Place) (rows : List Row) : Type 0 where
-  pub declaration : PlainKind
-  pub counted : IsCounted declaration place
-  pub holds : HoldsFirsts s declaration place.kind rows
-
-pub at_firsts : (s : PlainSchema) (place : Place) (tables : List KindTable) (table : KindTable) → IsPlace s.kinds place → place.kind < 65536 → HoldsKinds s tables →
-    table ≡ get_or tables place.kind table → IsAtFirsts s place table.firsts.items
-at_firsts s place tables table at short holds found =
-    let declared = declaration_at s.kinds place at in
-    let is = table_of s place.kind tables table (place_within s.kinds place place.kind at) short holds found in
-    record { declaration = declared.0; counted = place_counted place declared.0 declared.2; holds = is.firsts declared.0 declared.1 }
-
-pub first_there : (s : PlainSchema) (place : Place) (rows : List Row) → IsAtFirsts s place rows → place.particle < length rows
-first_there s place rows at = omega (arith, at.holds.whole, at.counted.particle)
-
-pub first_row : (s : PlainSchema) (place : Place) (rows : List Row) (row : Row) → IsAtFirsts s place rows → row ≡ get_or rows place.particle row →
-    place.copies ≡ 0 → place.attributes ≡ 0 → IsRow s place row
-first_row s place rows row at is copies attributes =
-    let first : IsRow s (record { kind = place.kind; particle = place.particle; copies = 0; attributes = 0 }) row = table_at _ _ rows place.particle row at.holds at.counted.particle is in
-    let Copied : ℕ → Type 0 = λ n. IsRow s (record { kind = place.kind; particle = place.particle; copies = n; attributes = 0 }) row in
-    let Passed : ℕ → Type 0 = λ n. IsRow s (record { kind = place.kind; particle = place.particle; copies = place.copies; attributes = n }) row in
-    subst Passed (sym attributes) (subst Copied (sym copies) first)
 
 -- the declaration of a place, and the tables of its particles
 pub record IsAtParticles (s : PlainSchema) (place : Place) (tables : List (Vec Row Global)) : Type 0 where

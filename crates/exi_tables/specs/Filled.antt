@@ -23,11 +23,6 @@ pub record IsTable {X : Type 0} (count : ℕ) (IsRight : ℕ → X → Type 0) (
   pub whole : length items ≡ count
   pub each : (i : ℕ) (item : X) → slice_get items i ≡ Some item → IsRight i item
 
--- the rows of the places of a declaration at which neither an attribute nor a copy of the next particle is passed
-abbrev pub HoldsFirsts : PlainSchema → PlainKind → ℕ → List Row → Type 0
-HoldsFirsts s declaration kind rows =
-    IsTable (particle_places declaration) (λ particle row. IsRow s (record { kind = kind; particle = particle; copies = 0; attributes = 0 }) row) rows
-
 -- the rows of the places of a declaration that differ from `here` in the copies
 abbrev pub HoldsCopies : PlainSchema → PlainKind → Place → List Row → Type 0
 HoldsCopies s declaration here rows =
@@ -53,7 +48,6 @@ pub record IsKindTable (s : PlainSchema) (kind : ℕ) (table : KindTable) : Type
   pub each_optional :
       (all : OptionalSequence) → IsOptionalSequence s.kinds (record { kind = kind; particle = 0; copies = 0; attributes = 0 }) all →
       table.optional ≡ Some all
-  pub firsts : (declaration : PlainKind) → slice_get s.kinds kind ≡ Some declaration → HoldsFirsts s declaration kind table.firsts.items
   pub rows :
       (declaration : PlainKind) → slice_get s.kinds kind ≡ Some declaration →
       HoldsAttributes s declaration (record { kind = kind; particle = 0; copies = 0; attributes = 0 }) table.by_attributes.items

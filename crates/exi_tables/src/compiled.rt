@@ -69,16 +69,13 @@ impl<D: Declared> Rows<D> {
     ghost use Rattle.exi_schema.specs.Offers.{IsPlace};
     ghost use Rattle.exi_tables.specs.Filled.{IsRow};
 
-    /// The row of a place. At most places neither an attribute nor a copy is passed.
+    /// The row of a place.
     #[inline(always)]
     fn row(&self, place: Place) -> &Row
         requires { IsPlace D.schema.kinds place }
         ensures { IsRow D.schema place result.now }
     {
         let table = &self.kinds[place.kind as usize];
-        if place.copies == 0 && place.attributes == 0 {
-            return &table.firsts[place.particle as usize];
-        }
         let by_particle = &table.by_attributes[place.attributes as usize];
         let by_copies = &by_particle[place.particle as usize];
         &by_copies[place.copies as usize]

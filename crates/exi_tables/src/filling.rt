@@ -5,7 +5,7 @@ ghost use Rattle.exi_schema.specs.Offers.{IsPlace};
 ghost use Rattle.exi_schema.specs.Plain.{plain_kind};
 ghost use Rattle.exi_schema.specs.Told.{schema_of};
 ghost use Rattle.exi_tables.specs.Counts.{attribute_places as places_by_attribute, particle_places as places_by_particle};
-ghost use Rattle.exi_tables.specs.Filled.{IsRow, HoldsFirsts, HoldsCopies, HoldsParticles, HoldsAttributes, IsKindTable};
+ghost use Rattle.exi_tables.specs.Filled.{IsRow, HoldsCopies, HoldsParticles, HoldsAttributes, IsKindTable};
 
 use crate::counts::{attribute_places, copy_places, particle_places};
 use crate::optional::optional_sequence_of_kind;
@@ -24,14 +24,12 @@ pub(crate) struct Row {
 }
 
 /// A kind: its datatype, if it is simple, its children, if it is a sequence of at most eight values or one of three of which the second may be
-/// absent, its rows by the particles passed where neither an attribute nor a copy is, and all of its rows by the attributes passed, by the particles
-/// passed, and by the copies passed.
+/// absent, and its rows by the attributes passed, by the particles passed, and by the copies passed.
 #[derive(Drop)]
 pub(crate) struct KindTable {
     pub(crate) datatype: Option<Datatype>,
     pub(crate) sequence: Vec<SequenceChild>,
     pub(crate) optional: Option<OptionalSequence>,
-    pub(crate) firsts: Vec<Row>,
     pub(crate) by_attributes: Vec<Vec<Vec<Row>>>,
 }
 
@@ -47,30 +45,6 @@ fn row_of(alloc: Global, schema: &Schema, place: Place) -> Result<Row, NoMemory>
     }
     let width = schema.width(place);
     Ok(Row { steps, width })
-}
-
-/// The rows of the places of a kind at which neither an attribute nor a copy of the next particle is passed.
-fn first_rows(
-    alloc: Global,
-    schema: &Schema,
-    declaration: &Declaration,
-    kind: u16,
-) -> Result<Vec<Row>, NoMemory>
-    requires { slice_get (schema_of schema.now).kinds kind ≡ Some (plain_kind declaration.now) }
-    ensures { IfOk result (λ rows. HoldsFirsts (schema_of schema.now) (plain_kind declaration.now) kind rows.items) }
-{
-    let count = particle_places(declaration);
-    let mut rows = Vec::with_capacity(alloc, count)?;
-    for particle in 0..count {
-        let place = Place {
-            kind,
-            particle: particle as u16,
-            copies: 0,
-            attributes: 0,
-        };
-        rows.push(row_of(alloc, schema, place)?)?;
-    }
-    Ok(rows)
 }
 
 /// The rows of the places of a kind that differ from `here` in the copies.
@@ -152,7 +126,6 @@ pub(crate) fn table_of_kind(
     ensures { IfOk result (λ table. IsKindTable (schema_of schema.now) kind table) }
 {
     let declaration = &schema.kinds[kind as usize];
-    let firsts = first_rows(alloc, schema, declaration, kind)?;
     let by_attributes = rows_of_kind(alloc, schema, declaration, Place::first(kind))?;
     let datatype = schema.datatype(kind);
     let sequence = sequence_of_kind(alloc, schema, kind)?;
@@ -161,7 +134,6 @@ pub(crate) fn table_of_kind(
         datatype,
         sequence,
         optional,
-        firsts,
         by_attributes,
     })
 }

@@ -1,25 +1,7 @@
 use Rattle.std.proofs.Common.{◌≡◌, ◌<◌, length, sym, arith}
 use Rattle.std.specs.Vec.{vec_len}
-use Rattle.exi_tables.proofs.Reading.{IsAtFirsts, at_firsts, first_there, first_row, IsAtParticles, attributes_there, at_particles, at_copies, at_row, particle_there, copies_there}
+use Rattle.exi_tables.proofs.Reading.{IsAtParticles, attributes_there, at_particles, at_copies, at_row, particle_there, copies_there}
 use Rattle.exi_tables.proofs.compiled.Rows.row.Goals as goal
-
-pub index-requires : goal.index-requires
-index-requires g c =
-    let s = g.D.Declared.schema in
-    let table = c.index-table.result.now in
-    let at : IsAtFirsts s c.args.place table.firsts.items =
-    at_firsts s c.args.place c.self.inside.kinds.items table c.requires (omega arith) c.self.invariant.0 c.index-table.ensures in
-    let there : c.args.place.particle < length table.firsts.items = first_there s c.args.place table.firsts.items at in
-    let whole : length table.firsts.items ≡ vec_len table.firsts = sym table.firsts.ok.0 in
-    omega (arith, there, whole)
-
-pub returns-then-place-eq0-2 : goal.returns-then-place-eq0-2
-returns-then-place-eq0-2 g c =
-    let s = g.D.Declared.schema in
-    let table = c.index-table.result.now in
-    let at : IsAtFirsts s c.args.place table.firsts.items =
-    at_firsts s c.args.place c.self.inside.kinds.items table c.requires (omega arith) c.self.invariant.0 c.index-table.ensures in
-    first_row s c.args.place table.firsts.items c.index.result.now at c.index.ensures c.if-place-eq0.true c.if-place-eq0-2.true
 
 pub index-by_particle-requires : goal.index-by_particle-requires
 index-by_particle-requires g c =
@@ -39,8 +21,8 @@ index-by_copies-requires g c =
     let there : c.args.place.particle < length c.index-by_particle.result.now.items = particle_there s c.args.place c.index-by_particle.result.now.items at in
     omega (arith, there)
 
-pub index-requires-2 : goal.index-requires-2
-index-requires-2 g c =
+pub index-requires : goal.index-requires
+index-requires g c =
     let s = g.D.Declared.schema in
     let at : IsAtParticles s c.args.place c.index-by_particle.result.now.items =
     at_particles s c.args.place c.self.inside.kinds.items c.index-table.result.now c.index-by_particle.result.now
@@ -55,5 +37,5 @@ returns g c =
     let at : IsAtParticles s c.args.place c.index-by_particle.result.now.items =
     at_particles s c.args.place c.self.inside.kinds.items c.index-table.result.now c.index-by_particle.result.now
     c.requires (omega arith) c.self.invariant.0 c.index-table.ensures c.index-by_particle.ensures in
-    at_row s c.args.place c.index-by_copies.result.now.items c.index-2.result.now
-    (at_copies s c.args.place c.index-by_particle.result.now.items c.index-by_copies.result.now at c.index-by_copies.ensures) c.index-2.ensures
+    at_row s c.args.place c.index-by_copies.result.now.items c.index.result.now
+    (at_copies s c.args.place c.index-by_particle.result.now.items c.index-by_copies.result.now at c.index-by_copies.ensures) c.index.ensures
