@@ -21,14 +21,14 @@ use Rattle.car_spec.specs.Next as car_next
 use Rattle.car_spec.specs.States.{State}
 use Rattle.car_spec.specs.Steps as car_steps
 use Rattle.pipe_spec.specs.Chargers.{behind_act}
-use Rattle.pipe_spec.specs.Histories.{Happening, StationDoes, CarReads, CarDoes, joined, moment, to_station, to_car, station_says, car_says, car_cause}
+use Rattle.pipe_spec.specs.Histories.{Happening, StationDoes, CarReads, CarDoes, joined, ported, moment, to_station, to_car, station_says, car_says, car_cause}
 use Rattle.pipe_spec.specs.Turns.{Station, car_state, StationRests, CarRestsBy, StationMayDo, CarMayReadBy, CarMayDoBy}
 use Rattle.pipe_spec.specs.Runs.{IsRun}
 use Rattle.pipe_laws.specs.OneMessage.{IsShort, IsRest, IsOneUnderWay}
 use Rattle.pipe_laws.proofs.Runs.{one_is_under_way}
 use Rattle.pair_ends.specs.Ends.{PostSide, CarSide, charger_behind, post_acted, PostDoes, CarReadsOne, CarDoesOne}
 use Rattle.pair_ends.specs.Tallies.{car_read, car_did}
-use Rattle.pair_talk.specs.Keeping.{ported, IsPostAt, IsCarAt, IsAt}
+use Rattle.pair_talk.specs.Keeping.{IsPostAt, IsCarAt, IsAt}
 use Rattle.pair_talk.specs.Sides.{Sides}
 use Rattle.pair_talk.proofs.Overs.{read_over, acted_over}
 use Rattle.pair_talk.proofs.Ports.{same_decided, same_read, acts_so, reads_so, rests_so}

@@ -11,14 +11,14 @@ use Rattle.car_spec.specs.Codecs as car
 use Rattle.pair_plans.specs.Drawn.{IsDrawnCar}
 use Rattle.pair_plans.specs.Generated.{AreSessions, IsNextSession}
 use Rattle.pipe_spec.specs.Counts.{Counts, counts}
-use Rattle.pipe_spec.specs.Histories.{Happening, CarComes, NumberIsDrawn, joined}
+use Rattle.pipe_spec.specs.Histories.{Happening, CarComes, NumberIsDrawn, joined, ported}
 use Rattle.pipe_spec.specs.Numbers.{behind}
 use Rattle.pipe_spec.specs.Runs.{IsRun}
 use Rattle.pipe_spec.specs.Turns.{Station, BothRest}
 use Rattle.pair_talk.specs.Beginning.{IsNew, Awaits}
 use Rattle.pair_talk.specs.Ending.{Ends}
 use Rattle.pair_talk.specs.Generating.{AreHeld, AreCounts}
-use Rattle.pair_talk.specs.Keeping.{ported, AreSound}
+use Rattle.pair_talk.specs.Keeping.{AreSound}
 use Rattle.pair_talk.specs.Parting.{all_hearings, IsOver, HasParted}
 use Rattle.pair_talk.specs.Sides.{Sides, with_plan}
 use Rattle.pair_talk.proofs.Bounds.{moments_are_early, session_heard, counts_are_exact}

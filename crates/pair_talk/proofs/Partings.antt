@@ -13,12 +13,12 @@ use Rattle.car_spec.specs.Acting.{state}
 use Rattle.car_spec.specs.Next.{IsQuiet}
 use Rattle.car_spec.specs.Steps.{Step}
 use Rattle.pair_plans.specs.Generated.{IsBetween}
-use Rattle.pipe_spec.specs.Histories.{Happening, StationDoes, CarGoes, NumberIsDrawn, joined, moment, car_plan, car_steps, car_cause, car_hearings, car_has_ended, station_hearings, station_has_ended}
+use Rattle.pipe_spec.specs.Histories.{Happening, StationDoes, CarGoes, NumberIsDrawn, joined, ported, moment, car_plan, car_steps, car_cause, car_hearings, car_has_ended, station_hearings, station_has_ended}
 use Rattle.pipe_spec.specs.Numbers.{next, behind}
 use Rattle.pipe_spec.specs.Turns.{Station, BothRest, CarRestsBy, car_is_spent, is_over, MayFollow, nothing_under_way}
 use Rattle.pair_talk.specs.Acting.{IsOfStation, HasAnswered}
 use Rattle.pair_talk.specs.Beginning.{Awaits}
-use Rattle.pair_talk.specs.Keeping.{ported, AreSound, IsAt, PostIsQuiet}
+use Rattle.pair_talk.specs.Keeping.{AreSound, IsAt, PostIsQuiet}
 use Rattle.pair_talk.specs.Parting.{all_hearings, IsOver, HasParted}
 use Rattle.pair_talk.specs.Sides.{Sides, gone, with_plan}
 use Rattle.pair_talk.proofs.Acts.{post_rests}

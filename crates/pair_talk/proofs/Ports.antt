@@ -23,7 +23,7 @@ use Rattle.car_spec.specs.Judging.{waiting, gone_on, moved, replied_by, replied,
 use Rattle.car_spec.specs.Next.{IsQuiet, IsSaid, IsDone, MayAct, MayRead}
 use Rattle.car_spec.specs.States.{Session, State, Wording, nothing, Todo, Call, Drive, Speak, Finish, Inquire}
 use Rattle.car_spec.specs.Steps.{Act, Spoken, Offer, Asked}
-use Rattle.pair_talk.specs.Keeping.{ported}
+use Rattle.pipe_spec.specs.Histories.{ported}
 
 pub same_decided : (plan : CarPlan) (s : State) → decided (ported plan) s ≡ decided plan s
 same_decided plan s = refl

@@ -10,13 +10,13 @@ use Rattle.station_spec.specs.States.{fresh}
 use Rattle.site_codec.specs.Replies.{IsPlan}
 use Rattle.car_spec.specs.Codecs as car
 use Rattle.car_codec.specs.Requests as car_plans
-use Rattle.pipe_spec.specs.Histories.{Happening, joined, moment, draws}
+use Rattle.pipe_spec.specs.Histories.{Happening, joined, ported, moment, draws}
 use Rattle.pipe_spec.specs.Numbers.{behind}
 use Rattle.pipe_spec.specs.Runs.{IsRun}
 use Rattle.pipe_spec.specs.Turns.{Station, MayCome}
 use Rattle.pipe_laws.specs.OneMessage.{IsShort}
 use Rattle.pair_ends.specs.Tallies.{post_nothing}
-use Rattle.pair_talk.specs.Keeping.{ported, IsPostAt}
+use Rattle.pair_talk.specs.Keeping.{IsPostAt}
 use Rattle.pair_talk.specs.Sides.{Sides}
 
 -- a pair of these plans to which nothing has happened

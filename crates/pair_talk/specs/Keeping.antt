@@ -13,7 +13,7 @@ use Rattle.car_codec.specs.Requests.{IsPlan}
 use Rattle.car_acts.specs.Sound.{IsSound}
 use Rattle.pipe_spec.specs.Chargers.{IsCharger}
 use Rattle.pipe_spec.specs.Counts.{counts, exchanges}
-use Rattle.pipe_spec.specs.Histories.{Happening, joined, car_plan, moment, draws, to_station, to_car, station_cause, car_cause, car_has_ended, station_hearings, car_hearings}
+use Rattle.pipe_spec.specs.Histories.{Happening, joined, ported, car_plan, moment, draws, to_station, to_car, station_cause, car_cause, car_has_ended, station_hearings, car_hearings}
 use Rattle.pipe_spec.specs.Numbers.{behind}
 use Rattle.pipe_spec.specs.Runs.{IsRun, IsWithin}
 use Rattle.pipe_spec.specs.Turns.{Station, station_state, car_state}
@@ -23,10 +23,6 @@ use Rattle.pair_ends.specs.declared.tallies.CarTally.{CarTally}
 use Rattle.pair_ends.specs.Ends.{PostSide, CarSide, IsReadySide}
 use Rattle.pair_ends.specs.Tallies.{few}
 use Rattle.pair_talk.specs.Sides.{Sides}
-
--- a plan with a port, which a car that is joined to a station doesn't dial
-abbrev pub ported : CarPlan → CarPlan
-ported plan = record plan { tcp = Some 15118 }
 
 -- the codecs of both ends can spell what is said, and the plans are within their rules
 pub record AreSound (Reads : Dialect → List ℕ → Option Word → Type 0) (s : Sides) : Type 0 where

@@ -4,8 +4,8 @@ ghost use Rattle.std.specs.Prelude.{◌≡◌, ◌<◌, ◌^◌, ◌≤◌, ◌+
 ghost use Rattle.car_spec.specs.Next.{IsQuiet};
 ghost use Rattle.session_words.specs.Plans.{IsCarPlan};
 ghost use Rattle.car_codec.specs.Requests.{IsPlan};
-ghost use Rattle.pipe_spec.specs.Histories.{joined};
-ghost use Rattle.pair_talk.specs.Keeping.{PostIsQuiet, CarIsQuiet, ported};
+ghost use Rattle.pipe_spec.specs.Histories.{joined, ported};
+ghost use Rattle.pair_talk.specs.Keeping.{PostIsQuiet, CarIsQuiet};
 ghost use Rattle.pair_talk.specs.Sides.{sides, with_car, with_event, with_piece_at_station, with_piece_at_car, later, gone, with_plan, heard_by, piece_of};
 ghost use Rattle.pair_ends.specs.Ends.{car_side};
 ghost use Rattle.evcc_machine.specs.Views.{event_of};

@@ -6,11 +6,10 @@ ghost use Rattle.session_words.specs.declared.plan.PostPlan.{PostPlan as PostPla
 ghost use Rattle.station_spec.specs.States.{fresh};
 ghost use Rattle.plant_sim.specs.Charger.{idle};
 ghost use Rattle.car_codec.specs.Requests.{IsPlan};
-ghost use Rattle.pipe_spec.specs.Histories.{joined};
+ghost use Rattle.pipe_spec.specs.Histories.{joined, ported};
 ghost use Rattle.pair_ends.specs.Ends.{post_side, car_side};
 ghost use Rattle.pair_ends.specs.Tallies.{post_nothing};
 ghost use Rattle.pair_talk.specs.Beginning.{IsNew};
-ghost use Rattle.pair_talk.specs.Keeping.{ported};
 ghost use Rattle.pair_talk.specs.Making.{IsNewPost};
 ghost use Rattle.pair_talk.specs.Sides.{sides};
 

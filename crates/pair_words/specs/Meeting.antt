@@ -15,14 +15,15 @@ use Rattle.session_rules.specs.Laws.{IsNear}
 use Rattle.car_rules.specs.declared.stage.CarPhase.{CarPhase}
 use Rattle.car_rules.specs.declared.stage.CarPhase.TheVariants as phase
 use Rattle.conforming_runs.specs.Requests.{IsSound}
+use Rattle.pipe_spec.specs.Histories.{ported}
 use Rattle.pipe_spec.specs.Matched.{IsMatched}
 use Rattle.pair_words.specs.Exchanges.{Both, Outside}
 
--- plans that match, each within its rules
+-- plans that match, each within its rules; a car that is joined to a station needs no port
 pub record ArePaired (post : PostPlan) (plan : CarPlan) : Type 0 where
   pub matched : IsMatched post plan
   pub of_post : IsPostPlan post
-  pub of_car : IsCarPlan plan
+  pub of_car : IsCarPlan (ported plan)
 
 -- rows in alternating current, or in direct current
 abbrev pub power_row : Bool → Phase → Phase → Phase

@@ -40,6 +40,10 @@ draws (other ∷ h) = draws h
 abbrev pub joined : CarPlan → CarPlan
 joined plan = record plan { sdp = 0 }
 
+-- with a port, which a car that is joined to a station doesn't dial
+abbrev pub ported : CarPlan → CarPlan
+ported plan = record plan { tcp = Some 15118 }
+
 abbrev pub car_plan : List Happening → Option CarPlan
 car_plan [] = None
 car_plan (CarComes plan ∷ h) = Some (joined plan)

@@ -2,9 +2,8 @@ use Rattle.std.proofs.Common.{ℕ, [], ◌∷◌, ◌∙◌, sym, ap, subst, ari
 use Rattle.post_spec.specs.Codecs.{codecs}
 use Rattle.station_spec.specs.Next.{IsQuiet}
 use Rattle.car_spec.specs.Codecs as car_codecs
-use Rattle.pipe_spec.specs.Histories.{NumberIsDrawn, joined}
+use Rattle.pipe_spec.specs.Histories.{NumberIsDrawn, joined, ported}
 use Rattle.pair_ends.specs.Ends.{PostSide, IsReadySide}
-use Rattle.pair_talk.specs.Keeping.{ported}
 use Rattle.pair_talk.specs.Sides.{Sides, sides, with_plan}
 use Rattle.pair_talk.proofs.Generated.{first_awaits, first_are_held}
 use Rattle.pair_talk.proofs.Sessions.{new_ready, new_quiet}

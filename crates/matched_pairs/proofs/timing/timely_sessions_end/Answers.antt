@@ -1,0 +1,5 @@
+use Rattle.matched_pairs.proofs.Timely as deadlines
+use Rattle.matched_pairs.proofs.timing.timely_sessions_end.Goals as goal
+
+pub returns : goal.returns
+returns g c = deadlines.timely_sessions_end _ _

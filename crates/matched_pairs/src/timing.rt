@@ -1,0 +1,91 @@
+//! In the first session of the pipe between a station and a car whose plans match, no end has a cause of its own, as far as no step of the car takes too long
+//! that is asked for again and again.
+//!
+//! Proved: `sessions_are_undisturbed` (as far as no deadline is reached and no measured power is too
+//! much, no end has a cause of its own: what the charger told suits each request, no order fails, and no event of the charger is a cause); `powers_are_within`
+//! (as far as no deadline is reached, no measured power is too much, in direct current and in alternating current of any phases);
+//! `timely_sessions_are_undisturbed` (where no deadline is reached, no end has a cause of its own) and `timely_sessions_end` (a session that is over then, but
+//! for the turns of a plan, has ended by SessionStop at both ends, and all that the car read is of the OK class); `time_passes_in_pauses` (as far as no end has
+//! a cause of its own, time passes only while the car waits to ask a request once more, and while the reply to PowerDelivery Start waits for the contactor);
+//! `clocks_are_right` (the clocks of both ends show the moment); `closes_are_heard` (a post whose contactor closes hears of it 50 ms behind its order, from
+//! which its deadline counts, so that this isn't reached); `moments_are_bounded` (a session lasts ten milliseconds a hearing at most, and its car came at 0);
+//! `sessions_keep_pace` (the moment from which the deadline of the post counts is past by 1,010 ms at most, a request that has no reply yet was said 60 ms
+//! before at most, and SessionSetup is replied to at 0) and `deadlines_are_kept` (so neither the deadlines of the post are reached nor those of the car for its
+//! connection and for a reply); `steady_sessions_end` (a session that is over then, but for the turns of a plan, has ended by SessionStop at both ends);
+//! `words_are_told` (a post reads a word only behind a turn that brought bytes to an end, so that nothing of its charger was due).
+
+ghost use Rattle.car_spec.specs.Codecs as car;
+ghost use Rattle.matched_pairs.specs.Bounds.{MomentsAreBounded};
+ghost use Rattle.matched_pairs.specs.Clocks.{ClocksAreRight};
+ghost use Rattle.matched_pairs.specs.Closing.{ClosesAreHeard};
+ghost use Rattle.matched_pairs.specs.Limits.{SessionsAreUndisturbed};
+ghost use Rattle.matched_pairs.specs.Paces.{SessionsKeepPace};
+ghost use Rattle.matched_pairs.specs.Pauses.{TimePassesInPauses};
+ghost use Rattle.matched_pairs.specs.Power.{PowersAreWithin};
+ghost use Rattle.matched_pairs.specs.Steps.{DeadlinesAreKept, SteadySessionsEnd};
+ghost use Rattle.matched_pairs.specs.Timely.{TimelySessionsAreUndisturbed, TimelySessionsEnd};
+ghost use Rattle.matched_pairs.specs.Told.{WordsAreTold};
+ghost use Rattle.post_spec.specs.Codecs as post;
+
+use car_spec::CarCoded;
+use post_spec::Coded;
+
+/// As far as no deadline is reached and no measured power is too much, no end has a cause of its own.
+pub fn sessions_are_undisturbed<C: Coded, D: CarCoded>()
+    ensures { SessionsAreUndisturbed (post.codecs C.negotiates C.reads C.encodes) (car.codecs D.offers D.responds D.reads D.encodes) }
+{}
+
+/// As far as no deadline is reached, no measured power is too much.
+pub fn powers_are_within<C: Coded, D: CarCoded>()
+    ensures { PowersAreWithin (post.codecs C.negotiates C.reads C.encodes) (car.codecs D.offers D.responds D.reads D.encodes) }
+{}
+
+/// Where no deadline is reached, no end has a cause of its own.
+pub fn timely_sessions_are_undisturbed<C: Coded, D: CarCoded>()
+    ensures { TimelySessionsAreUndisturbed (post.codecs C.negotiates C.reads C.encodes) (car.codecs D.offers D.responds D.reads D.encodes) }
+{}
+
+/// And a session that is over then, but for the turns of a plan, has ended by SessionStop at both ends.
+pub fn timely_sessions_end<C: Coded, D: CarCoded>()
+    ensures { TimelySessionsEnd (post.codecs C.negotiates C.reads C.encodes) (car.codecs D.offers D.responds D.reads D.encodes) }
+{}
+
+/// As far as no end has a cause of its own, time passes only while the car waits to ask a request once more, and while a reply waits for the contactor.
+pub fn time_passes_in_pauses<C: Coded, D: CarCoded>()
+    ensures { TimePassesInPauses (post.codecs C.negotiates C.reads C.encodes) (car.codecs D.offers D.responds D.reads D.encodes) }
+{}
+
+/// The clocks of both ends show the moment, that of the car as long as it hasn't ended.
+pub fn clocks_are_right<C: Coded, D: CarCoded>()
+    ensures { ClocksAreRight (post.codecs C.negotiates C.reads C.encodes) (car.codecs D.offers D.responds D.reads D.encodes) }
+{}
+
+/// A post whose contactor closes hears of it 50 ms behind its order, from which its deadline counts.
+pub fn closes_are_heard<C: Coded, D: CarCoded>()
+    ensures { ClosesAreHeard (post.codecs C.negotiates C.reads C.encodes) (car.codecs D.offers D.responds D.reads D.encodes) }
+{}
+
+/// A session lasts ten milliseconds a hearing at most, and its car came at 0.
+pub fn moments_are_bounded<C: Coded, D: CarCoded>()
+    ensures { MomentsAreBounded (post.codecs C.negotiates C.reads C.encodes) (car.codecs D.offers D.responds D.reads D.encodes) }
+{}
+
+/// The moments from which the deadlines of both ends count are past by little.
+pub fn sessions_keep_pace<C: Coded, D: CarCoded>()
+    ensures { SessionsKeepPace (post.codecs C.negotiates C.reads C.encodes) (car.codecs D.offers D.responds D.reads D.encodes) }
+{}
+
+/// As far as no step of the car takes too long, no deadline is reached.
+pub fn deadlines_are_kept<C: Coded, D: CarCoded>()
+    ensures { DeadlinesAreKept (post.codecs C.negotiates C.reads C.encodes) (car.codecs D.offers D.responds D.reads D.encodes) }
+{}
+
+/// So a session that is over, but for the turns of a plan, has ended by SessionStop at both ends.
+pub fn steady_sessions_end<C: Coded, D: CarCoded>()
+    ensures { SteadySessionsEnd (post.codecs C.negotiates C.reads C.encodes) (car.codecs D.offers D.responds D.reads D.encodes) }
+{}
+
+/// A post reads a word only behind a turn that brought bytes to an end.
+pub fn words_are_told<C: Coded, D: CarCoded>()
+    ensures { WordsAreTold (post.codecs C.negotiates C.reads C.encodes) (car.codecs D.offers D.responds D.reads D.encodes) }
+{}

@@ -1,4 +1,0 @@
-pub mod Waiting
-pub mod Rows
-pub mod Places
-pub mod Contactors

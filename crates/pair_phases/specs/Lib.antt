@@ -1,3 +1,0 @@
-pub mod Ends
-pub mod Phases
-pub mod Acts
