@@ -3,12 +3,8 @@ use Rattle.std.specs.Prelude.{◌≡◌, ◌⊎◌, ℕ, List, ◌++◌, Option,
 use Rattle.std.specs.Str.{chars}
 use Rattle.charge_world.specs.Outside.{Appends, AppendsSome}
 use Rattle.exi_documents.specs.declared.refusal.RefusalCause.{RefusalCause}
-use Rattle.site_codecs.specs.Negotiating.{Negotiates}
-use Rattle.site_codecs.specs.Codecs as rules
-use Rattle.post_spec.specs.Codecs.{Codecs, codecs}
-use Rattle.car_codecs.specs.Codecs as car_rules
-use Rattle.car_codecs.specs.Offering.{Offers}
-use Rattle.car_codecs.specs.Responding.{Responds}
+use Rattle.post_spec.specs.Codecs.{Codecs}
+use Rattle.pair_codecs.specs.Codecs as pair
 use Rattle.car_spec.specs.Codecs as cars
 use Rattle.message_dialects.specs.declared.dialect.MessageDialect.{MessageDialect}
 use Rattle.message_trees.specs.Texts.{IsPrinted, IsRefusedIn, IsScanned, IsUnscanned}
@@ -26,11 +22,11 @@ use Rattle.charge_run.specs.declared.fault.InputFault.TheVariants.{Place, Memory
 
 -- the codecs of the program's station
 abbrev pub site_codecs : Codecs
-site_codecs = codecs Negotiates rules.Reads rules.Encodes
+site_codecs = pair.post_codecs
 
 -- those of its car
 abbrev pub car_codecs : cars.Codecs
-car_codecs = cars.codecs Offers Responds rules.Reads car_rules.Encodes
+car_codecs = pair.car_codecs
 
 abbrev pub IsSomeStation : List (List ℕ) → Type 0
 IsSomeStation words = (plan : List ℕ) × IsStation words plan

@@ -7,10 +7,10 @@ ghost use Rattle.command_status.specs.Told.{file_told, sink_told};
 ghost use Rattle.charge_run.specs.Runs.{car_codecs};
 ghost use Rattle.charge_run.specs.Cars.{CarLeaves};
 
-use car_codecs::CarCodecs;
 use car_command::car;
 use charge_world::{Sink, Source, Wire};
 use command_status::Status;
+use pair_codecs::CarCodecs;
 use std::alloc::Global;
 
 /// Drives a car by the plan in the file of that name, which talks with its post in the negotiation, ISO 15118-2 and DIN SPEC 70121.

@@ -10,8 +10,8 @@ ghost use Rattle.charge_run.specs.Runs.{site_codecs};
 
 use charge_world::{Sink, Source};
 use command_status::Status;
+use pair_codecs::ChargeCodecs;
 use replay_command::replay;
-use site_codecs::ChargeCodecs;
 use std::alloc::Global;
 
 /// Replays the trace in the file of one name at a station by the plan in that of another, which talks with its cars in the negotiation,

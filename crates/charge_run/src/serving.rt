@@ -9,8 +9,8 @@ ghost use Rattle.charge_run.specs.Stations.{StationLeaves};
 
 use charge_world::{Sink, Source, Wire};
 use command_status::Status;
+use pair_codecs::ChargeCodecs;
 use replay_command::station_command::station;
-use site_codecs::ChargeCodecs;
 use std::alloc::Global;
 
 /// Serves a station by the plan in the file of that name, which talks with its cars in the negotiation, ISO 15118-2 and DIN SPEC 70121.

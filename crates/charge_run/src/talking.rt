@@ -7,11 +7,10 @@ ghost use Rattle.pair_command.specs.Files.{plans_told};
 ghost use Rattle.pair_command.specs.Leaving.{TalkLeaves};
 ghost use Rattle.charge_run.specs.Runs.{site_codecs, car_codecs};
 
-use car_codecs::CarCodecs;
 use charge_world::{NoMemory, Sink, Source};
 use command_status::Status;
+use pair_codecs::{CarCodecs, ChargeCodecs};
 use pair_command::talk;
-use site_codecs::ChargeCodecs;
 use std::alloc::Global;
 
 /// The codecs of both ends.

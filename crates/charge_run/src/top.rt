@@ -14,7 +14,6 @@ ghost use Rattle.audit_command.specs.Leaving.{AuditLeaves};
 ghost use Rattle.audit_command.specs.Own.{PassesOwn};
 ghost use Rattle.own_codecs.specs.Codecs.{charge_codecs};
 ghost use Rattle.pair_command.specs.Files.{plans_told};
-ghost use Rattle.pair_command.specs.Leaving.{TalkLeaves};
 ghost use Rattle.charge_run.specs.Cars.{CarLeaves};
 ghost use Rattle.file_commands.specs.Basics.{BasicLeaves};
 ghost use Rattle.migrate_command.specs.Leaving.{MigrateLeaves};
@@ -25,6 +24,7 @@ ghost use Rattle.payload_commands.specs.Picking.{PickLeaves};
 ghost use Rattle.migrate_command.specs.Lines.{sink_change};
 ghost use Rattle.charge_run.specs.Runs.{site_codecs, car_codecs, UsesWire, IsSomeReplay, IsSomeAudit, IsSomeBasic, IsSomeMigrate, IsSomeSchedule, IsSomePick, WantsNothing, ReadsFiles, ReadsPlan, WritesTrace, Decodes, IsDecodeFault, Encodes};
 ghost use Rattle.charge_run.specs.Stations.{StationLeaves};
+ghost use Rattle.charge_run.specs.Talks.{Talks};
 ghost use Rattle.charge_run.specs.Completing.{IsUnfailed};
 
 use crate::auditing::audit_trace;
@@ -164,9 +164,10 @@ pub fn run<F: Source, K: Sink, J: Sink, W: Wire>(
         (files_told (F.holds files.old plan) (F.holds files.old recorded) (F.faults files.old) (F.faults files.new))
         (sink_told (K.taken out.old) (K.faults out.old)) (sink_told (K.taken out.new) (K.faults out.new)) }
 
-    // `talk`: the line is that of the run of the pipe that the plans in the files and the seed determine, or the files' fault is told.
+    // `talk`: the line is that of the run of the pipe that the plans in the files and the seed determine, or the files' fault is told. Of plans that go
+    // together that run ends well (`IsWell`), as the codecs fit.
     ensures talk { (station : List ℕ) (car : List ℕ) (seed : ℕ) → IsTalk words.now station car seed
-        → TalkLeaves site_codecs car_codecs (TellsAlways F.left) seed result
+        → Talks (TellsAlways F.left) seed result
         (plans_told (F.holds files.old station) (F.holds files.old car) (F.faults files.old) (F.faults files.new))
         (sink_told (K.taken out.old) (K.faults out.old)) (sink_told (K.taken out.new) (K.faults out.new)) }
 

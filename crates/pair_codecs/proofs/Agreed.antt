@@ -9,10 +9,10 @@ use Rattle.app_protocol.specs.Messages.{message_of, ordinal_of}
 use Rattle.app_protocol.specs.Negotiation.{IsAbove, IsChosen, code_for, Negotiates as Rules}
 use Rattle.app_protocol.proofs.Decided.{apart}
 use Rattle.post_spec.specs.Codecs.{Judged, Negotiated, Asked, WrongSide, Refused}
-use Rattle.car_codec_laws.specs.Negotiating.{IsNegotiated, Negotiates}
-use Rattle.car_codec_laws.proofs.EachJudged.{each_judged}
-use Rattle.car_codec_laws.specs.Offering.{entries_of, entries_from}
-use Rattle.car_codec_laws.specs.Responding.{chosen_by}
+use Rattle.site_codecs.specs.Negotiating.{IsNegotiated, Negotiates}
+use Rattle.car_codecs.proofs.EachJudged.{each_judged}
+use Rattle.car_codecs.specs.Offering.{entries_of, entries_from}
+use Rattle.car_codecs.specs.Responding.{chosen_by}
 use Rattle.pair_negotiation.specs.Agreeing.{IsPreferred, AreAgreed, AgreeOnShared}
 use Rattle.pair_codecs.specs.Codecs.{post_codecs, car_codecs}
 use Rattle.pair_codecs.proofs.Entries.{IsPlaced, IsBelow, placed, all_foreign, some_match, one_namespace}

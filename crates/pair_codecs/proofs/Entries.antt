@@ -6,8 +6,8 @@ use Rattle.charge_world.specs.declared.offer.Dialect.{Dialect}
 use Rattle.charge_world.specs.declared.offer.Dialect.TheVariants.{Iso, Din}
 use Rattle.app_documents.specs.Trees.{Offered}
 use Rattle.app_protocol.specs.Negotiation.{namespace_of, NoMatch, IsAbove}
-use Rattle.car_codec_laws.specs.Offering.{entry_at, entries_from}
-use Rattle.car_codec_laws.specs.Responding.{named_from}
+use Rattle.car_codecs.specs.Offering.{entry_at, entries_from}
+use Rattle.car_codecs.specs.Responding.{named_from}
 use Rattle.pair_negotiation.specs.Agreeing.{IsForeign}
 
 -- ---- lists

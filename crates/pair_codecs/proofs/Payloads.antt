@@ -8,7 +8,7 @@ use Rattle.app_documents.specs.Trees.{Offered, Message, Request, Response, IsMes
 use Rattle.app_documents.proofs.Fits.{of_message}
 use Rattle.app_documents.proofs.OneMessage.{one_message}
 use Rattle.app_protocol.specs.Documents.{IsApp, IsAppEncoding}
-use Rattle.car_codec_laws.specs.Negotiating.{IsResponse}
+use Rattle.site_codecs.specs.Negotiating.{IsResponse}
 
 pub spelled : (m : Message) (payload : List ℕ) → IsAppEncoding m payload → IsApp m payload
 spelled m payload e =

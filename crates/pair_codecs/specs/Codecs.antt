@@ -3,12 +3,12 @@ use Rattle.std.specs.Prelude.{ℕ, List}
 use Rattle.session_words.specs.declared.plan.CarPlan.{CarPlan}
 use Rattle.session_words.specs.declared.plan.PostPlan.{PostPlan}
 use Rattle.post_spec.specs.Codecs as post
-use Rattle.car_codec_laws.specs.CodecCodecs.{Reads, Encodes}
-use Rattle.car_codec_laws.specs.Negotiating.{Negotiates}
+use Rattle.site_codecs.specs.Codecs.{Reads, Encodes}
+use Rattle.site_codecs.specs.Negotiating.{Negotiates}
 use Rattle.car_spec.specs.Codecs as car
-use Rattle.car_codec_laws.specs.Codecs as car_written
-use Rattle.car_codec_laws.specs.Offering.{Offers}
-use Rattle.car_codec_laws.specs.Responding.{Responds}
+use Rattle.car_codecs.specs.Codecs as car_written
+use Rattle.car_codecs.specs.Offering.{Offers}
+use Rattle.car_codecs.specs.Responding.{Responds}
 use Rattle.pair_words.specs.Meeting.{ArePaired}
 use Rattle.pair_negotiation.specs.Beginning.{HaveBegun}
 

@@ -102,7 +102,7 @@ talk_told : (c : Codecs) (cc : car.Codecs) → AreLawful c cc → (tells : Type 
     → LeavesBy c cc tells seed s files before after → (s ≡ status.SourceFault → ⊥) → (site : SitePlan) (plan : CarPlan) (line : List ℕ) → ArePlanTexts files site plan
     → after.faults ≡ before.faults → IsTalkLine c cc site plan seed line → ComesWith status.Done (Writes line before after) s
 talk_told c cc lawful tells seed status.Done files before after t h read site plan line are printed is =
-    let own = line_too c cc files h.site site h.plan plan seed h.talked.line (texts_of tells files h.site h.plan t h.plans_are) are h.talked.is in
+    let own = line_too c cc files h.site site h.plan plan seed h.talked.line (texts_of tells files h.site h.plan t h.plans_are) are h.talked.is.talk in
     inl (refl, subst (λ (l : List ℕ). Writes l before after) (one_line c cc lawful site plan seed h.talked.line line own is) h.talked.printed)
 talk_told c cc lawful tells seed status.SinkFault files before after t h read site plan line are printed is =
     absurd (never before.faults after.faults printed h.talked.printed.0)

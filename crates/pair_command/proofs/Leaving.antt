@@ -15,7 +15,7 @@ use Rattle.command_status.specs.declared.status.Status.TheVariants as status
 use Rattle.command_status.specs.Told.{SinkTold, Writes, WritesFront, PrintsAs}
 use Rattle.charging_files.specs.FileLines.{key_of, IsRefusedBy, Refuses, RefusesBy}
 use Rattle.pair_command.specs.Files.{PlansTold, ArePlans, HasFault, IsCarFault, IsRefusedAt}
-use Rattle.pair_command.specs.Talking.{IsTalkLine}
+use Rattle.pair_command.specs.Talking.{IsToldLine}
 use Rattle.pair_command.specs.Printing.{Printed}
 use Rattle.pair_command.specs.Leaving.{LeavesBy, TalkLeaves}
 use Rattle.pair_command.proofs.Decided.{AreLawful, decided}
@@ -41,17 +41,17 @@ left c cc lawful tells seed s files before after h unread =
 -- ---- files that were read
 
 talk_leaves : (c : Codecs) (cc : car.Codecs) (tells : Type 0) (seed : ℕ) (s : Status) (site : SitePlan) (plan : CarPlan) (files : PlansTold) (before after : SinkTold)
-    → ArePlans tells files site plan → Printed (IsTalkLine c cc site plan seed) s before after → LeavesBy c cc tells seed s files before after
+    → ArePlans tells files site plan → Printed (IsToldLine c cc site plan seed) s before after → LeavesBy c cc tells seed s files before after
 talk_leaves c cc tells seed status.Done site plan files before after are h = record { site = site; plan = plan; plans_are = are; talked = h }
 talk_leaves c cc tells seed status.SinkFault site plan files before after are h = record { site = site; plan = plan; plans_are = are; talked = h }
 talk_leaves c cc tells seed status.NoMemory site plan files before after are h = h
 talk_leaves c cc tells seed _ site plan files before after are h = absurd h
 
 pub has_talked : (c : Codecs) (cc : car.Codecs) → AreLawful c cc → (tells : Type 0) (seed : ℕ) (s : Status) (site : SitePlan) (plan : CarPlan) (files : PlansTold) (before after : SinkTold)
-    → ArePlans tells files site plan → files.m ≡ files.n → Printed (IsTalkLine c cc site plan seed) s before after → TalkLeaves c cc tells seed s files before after
+    → ArePlans tells files site plan → files.m ≡ files.n → Printed (IsToldLine c cc site plan seed) s before after → TalkLeaves c cc tells seed s files before after
 has_talked c cc lawful tells seed s site plan files before after are same h =
     left c cc lawful tells seed s files before after (talk_leaves c cc tells seed s site plan files before after are h)
-    (λ is. absurd (subst (λ (s : Status). Printed (IsTalkLine c cc site plan seed) s before after) is h), λ less. absurd (omega (arith, same, less)))
+    (λ is. absurd (subst (λ (s : Status). Printed (IsToldLine c cc site plan seed) s before after) is h), λ less. absurd (omega (arith, same, less)))
 
 -- ---- files that are refused
 

@@ -10,7 +10,7 @@ use Rattle.command_status.specs.FaultLines.{plan_line, source_line}
 use Rattle.command_status.specs.Told.{SinkTold, TellsLine, Writes}
 use Rattle.planned_traces.specs.Files.{ComesWith}
 use Rattle.pair_command.specs.Files.{PlansTold, ArePlans, ArePlanTexts, IsRefusedAt}
-use Rattle.pair_command.specs.Talking.{IsTalkLine}
+use Rattle.pair_command.specs.Talking.{IsTalkLine, IsToldLine}
 use Rattle.pair_command.specs.Printing.{Printed}
 
 -- the plans are those of the files
@@ -18,7 +18,7 @@ pub record HasTalked (c : Codecs) (cc : car.Codecs) (tells : Type 0) (seed : ℕ
   pub site : SitePlan
   pub plan : CarPlan
   pub plans_are : ArePlans tells files site plan
-  pub talked : Printed (IsTalkLine c cc site plan seed) s before after
+  pub talked : Printed (IsToldLine c cc site plan seed) s before after
 
 -- the key at which a plan is refused is told
 pub record IsPlanTold (tells : Type 0) (files : PlansTold) (before after : SinkTold) : Type 0 where

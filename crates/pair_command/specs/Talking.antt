@@ -8,6 +8,7 @@ use Rattle.pair_plans.specs.Lines.{talk_line}
 use Rattle.pair_talk.specs.Counts.{exchanges, car_cause_number}
 use Rattle.pair_talk.specs.Runs.{IsPipeRun}
 use Rattle.pipe_spec.specs.Histories.{Happening}
+use Rattle.matched_pairs.specs.PipeRuns.{IsWell}
 
 -- `exchanges N cause C`, of the run of the pipe that both plans and the seed determine: the replies that the car heard, and the number of the cause by
 -- which it ended, 0 where it didn't
@@ -15,3 +16,8 @@ pub record IsTalkLine (c : Codecs) (cc : car.Codecs) (site : SitePlan) (plan : C
   pub history : List Happening
   pub run : IsPipeRun c cc site plan seed history
   pub line_is : line ≡ talk_line (exchanges history) (car_cause_number history)
+
+-- as it is told: that run ends well where the plans go together
+pub record IsToldLine (c : Codecs) (cc : car.Codecs) (site : SitePlan) (plan : CarPlan) (seed : ℕ) (line : List ℕ) : Type 0 where
+  pub talk : IsTalkLine c cc site plan seed line
+  pub well : IsWell c cc site plan talk.history

@@ -5,7 +5,7 @@ ghost use Rattle.session_words.specs.Plans.{IsCarPlan, IsSitePlan};
 ghost use Rattle.post_spec.specs.Codecs.{codecs};
 ghost use Rattle.car_spec.specs.Codecs as car_codecs;
 ghost use Rattle.command_status.specs.Told.{sink_told};
-ghost use Rattle.pair_command.specs.Talking.{IsTalkLine};
+ghost use Rattle.pair_command.specs.Talking.{IsToldLine};
 ghost use Rattle.pair_command.specs.Printing.{Printed};
 
 use crate::plans::PairPlans;
@@ -27,7 +27,7 @@ fn line_of<C: Codec + Drop, D: CarCodec + Drop>(
 ) -> Result<String, NoMemory>
     requires station { IsSitePlan plans.now.station }
     requires car { IsCarPlan plans.now.car }
-    ensures { IfOk result (λ line. IsTalkLine (codecs C.negotiates C.reads C.encodes) (car_codecs.codecs D.offers D.responds D.reads D.encodes)
+    ensures { IfOk result (λ line. IsToldLine (codecs C.negotiates C.reads C.encodes) (car_codecs.codecs D.offers D.responds D.reads D.encodes)
         plans.now.station plans.now.car seed (string_bytes line)) }
 {
     let report = pair_talk::talk(alloc, codec, car_codec, &plans.station, &plans.car, seed)?;
@@ -45,7 +45,7 @@ pub(crate) fn print_talk<C: Codec + Drop, D: CarCodec + Drop, K: Sink>(
 ) -> Status
     requires station { IsSitePlan plans.now.station }
     requires car { IsCarPlan plans.now.car }
-    ensures { Printed (IsTalkLine (codecs C.negotiates C.reads C.encodes) (car_codecs.codecs D.offers D.responds D.reads D.encodes)
+    ensures { Printed (IsToldLine (codecs C.negotiates C.reads C.encodes) (car_codecs.codecs D.offers D.responds D.reads D.encodes)
         plans.now.station plans.now.car seed) result (sink_told (K.taken out.old) (K.faults out.old)) (sink_told (K.taken out.new) (K.faults out.new)) }
 {
     match line_of(alloc, codec, car_codec, plans, seed) {

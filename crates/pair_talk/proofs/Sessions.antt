@@ -22,6 +22,7 @@ use Rattle.pipe_spec.specs.Counts.{exchanges}
 use Rattle.pipe_spec.specs.Histories.{Happening, CarComes, joined, moment}
 use Rattle.pipe_spec.specs.Turns.{Station}
 use Rattle.pipe_laws.proofs.Words.{exchanges_are_within_turns}
+use Rattle.matched_pairs.proofs.PipeRuns.{pipe_runs_are_well}
 use Rattle.pair_ends.specs.declared.tallies.PostTally.{PostTally}
 use Rattle.pair_ends.specs.Ends.{IsReadySide}
 use Rattle.pair_ends.specs.Tallies.{few}
@@ -121,16 +122,19 @@ new_quiet site plan seed s n = subst (λ (x : states.State). IsQuiet s.post.plan
 exact : (n m t : ℕ) → m ≡ few n → n < t → t ≤ 4294967296 → m ≡ n
 exact n m t e l k = omega (arith, e, l, k)
 
-pub talks : (c : Codecs) (cs : car.Codecs) (site : SitePlan) (plan : CarPlan) (seed : ℕ) (s new : Sides) (report : TalkReport) → IsNew site plan seed s → 1 ≤ plan.turns → plan.turns ≤ 4294967296
+pub talks : (c : Codecs) (cs : car.Codecs) (site : SitePlan) (plan : CarPlan) (seed : ℕ) (s new : Sides) (report : TalkReport) → IsNew site plan seed s → IsSitePlan site → IsCarPlan plan
     → report.exchanges ≡ new.car.tally.exchanges → report.cause ≡ unwrap_or new.car.tally.cause 0
     → Ends c cs (record { limit = site.limit; turns = site.turns; post = s.post.plan; seed = seed }) plan [] new → IsTalk c cs site plan seed report
-talks c cs site plan seed s new report n least most exchanges_are cause_is e =
+talks c cs site plan seed s new report n rules car_rules exchanges_are cause_is e =
     let st : Station = record { limit = site.limit; turns = site.turns; post = s.post.plan; seed = seed } in
     let h = e.history in
-    let less : exchanges h < plan.turns = exchanges_are_within_turns c cs 1032 st (joined plan) h (omega arith) e.at.run e.at.short e.at.came least in
+    let less : exchanges h < plan.turns = exchanges_are_within_turns c cs 1032 st (joined plan) h (omega arith) e.at.run e.at.short e.at.came car_rules.turns.0 in
+    let run : IsPipeRun c cs site plan seed h =
+    record { station = st; station_is = record { others = n.others; first = n.first; limit = refl; turns = refl; seed_is = refl }; session = e.session } in
     record {
       history = h;
-      run = record { station = st; station_is = record { others = n.others; first = n.first; limit = refl; turns = refl; seed_is = refl }; session = e.session };
-      exchanges_are = exact (exchanges h) report.exchanges plan.turns (exchanges_are ∙ e.at.car.tally.exchanges_are) less most;
+      run = run;
+      well = pipe_runs_are_well c cs site plan seed h rules car_rules run e.at.short;
+      exchanges_are = exact (exchanges h) report.exchanges plan.turns (exchanges_are ∙ e.at.car.tally.exchanges_are) less car_rules.turns.1;
       cause_is = cause_is ∙ ap (λ (o : Option ℕ). unwrap_or o 0) e.at.car.tally.cause;
     }

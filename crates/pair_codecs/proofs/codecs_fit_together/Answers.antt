@@ -10,3 +10,6 @@ returns-clause-agree c = agreed.agree_on_shared
 
 pub returns-clause-begin : goal.returns-clause-begin
 returns-clause-begin c = fitting.sessions_begin
+
+pub returns-clause-fit : goal.returns-clause-fit
+returns-clause-fit c = fitting.are_fit

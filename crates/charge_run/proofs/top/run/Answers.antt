@@ -1,5 +1,6 @@
 use Rattle.std.proofs.Common.{inl, inr, [], ◌∷◌}
 use Rattle.command_words.specs.Command.{replay, audit, talk, decode, encode, basic, migrate, offer, schedule, services, pick}
+use Rattle.pair_codecs.proofs.Fitting.{are_fit}
 use Rattle.charge_run.proofs.Answered.{only_refused, only_unscanned, same_decoded, same_encoded, same_offered, same_owned, same_picked, same_served, same_talked, wants_nothing}
 use Rattle.charge_run.proofs.WordLists.{one_audit, one_decode, one_encode, one_offer, one_pick, one_services, one_talk}
 use Rattle.charge_run.proofs.Complete.{unfailed}
@@ -54,8 +55,11 @@ returns-in-Ok-Audit-clause-apart g c =
 pub returns-in-Ok-Talk-clause-talk : goal.returns-in-Ok-Talk-clause-talk
 returns-in-Ok-Talk-clause-talk g c station car seed is =
     let told = (rw c.in-Ok-Talk.field-0-is at c.in-Ok-Talk.ensures.command) in
-    same_talked (g.F.Source.holds c.args.files.now) (TellsAlways g.F.Source.left) c.in-Ok-Talk.station.now station c.in-Ok-Talk.car.now car c.in-Ok-Talk.seed seed
-    (one_talk c.args.words.now c.in-Ok-Talk.station.now station c.in-Ok-Talk.car.now car c.in-Ok-Talk.seed seed told is) _ _ _ _ _ c.talk_pair.ensures.leaves
+    record {
+      leaves = same_talked (g.F.Source.holds c.args.files.now) (TellsAlways g.F.Source.left) c.in-Ok-Talk.station.now station c.in-Ok-Talk.car.now car c.in-Ok-Talk.seed seed
+          (one_talk c.args.words.now c.in-Ok-Talk.station.now station c.in-Ok-Talk.car.now car c.in-Ok-Talk.seed seed told is) _ _ _ _ _ c.talk_pair.ensures.leaves;
+      fit = are_fit;
+    }
 
 pub returns-in-Ok-Talk-clause-apart : goal.returns-in-Ok-Talk-clause-apart
 returns-in-Ok-Talk-clause-apart g c =

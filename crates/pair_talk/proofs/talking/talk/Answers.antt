@@ -19,5 +19,5 @@ returns g c =
     let plan = c.args.car.now in
     let s = sides c.in_ok-pair.pair in
     let new = c.in_ok-pair.ensures in
-    talks cs ccs site plan c.args.seed s (sides c.hold_session.new.pair) c.report_of.result new c.requires.car.turns.0 c.requires.car.turns.1 c.report_of.ensures.exchanges c.report_of.ensures.cause
+    talks cs ccs site plan c.args.seed s (sides c.hold_session.new.pair) c.report_of.result new c.requires.station c.requires.car c.report_of.ensures.exchanges c.report_of.ensures.cause
     (c.hold_session.ensures.ends _ plan [] (awaits_first cs ccs site plan c.args.seed s new))
