@@ -28,6 +28,8 @@ use Rattle.matched_pairs.proofs.CarActs.{cars_go_on}
 use Rattle.matched_pairs.proofs.CarReads.{cars_read}
 use Rattle.matched_pairs.proofs.PostsHear.{posts_hear}
 use Rattle.matched_pairs.proofs.CarsHear.{cars_hear}
+use Rattle.matched_pairs.specs.Repeats.{repeats_read, repeats_of}
+use Rattle.matched_pairs.proofs.Repeats.{repeated}
 use Rattle.matched_pairs.specs.Courses.{IsAt, AllGoUndisturbed, GoesUndisturbed, count, GoesWell, SessionsGoWell}
 
 pub true_false : (b : Bool) → b ≡ true → b ≡ false → ⊥
@@ -151,32 +153,38 @@ pub record Known (c : post.Codecs) (cc : car.Codecs) (st : Station) (plan : CarP
 
 -- behind a happening that reads nothing
 goes : (c : post.Codecs) (cc : car.Codecs) (st : Station) (plan : CarPlan) (e : Happening) (h : List Happening) (w : GoesWell c cc st plan h) → IsOk e → exchanges (e ∷ h) ≡ exchanges h
-    → IsAt c cc st plan w.words (e ∷ h) → GoesWell c cc st plan (e ∷ h)
-goes c cc st plan e h w ok same p = record { words = w.words; phase = p; ok = (ok, w.ok); exchanges_are = same ∙ w.exchanges_are }
+    → repeats_read plan (e ∷ h) ≡ repeats_read plan h → IsAt c cc st plan w.words (e ∷ h) → GoesWell c cc st plan (e ∷ h)
+goes c cc st plan e h w ok same as_often p = record {
+  words = w.words;
+  phase = p;
+  ok = (ok, w.ok);
+  exchanges_are = same ∙ w.exchanges_are;
+  repeats_are = as_often ∙ w.repeats_are;
+}
 
 turned : (c : post.Codecs) (cc : car.Codecs) (st : Station) (plan : CarPlan) (h : List Happening) (e : Happening) (charger : Charger) → Known c cc st plan h → StationRests st h
     → car_next.IsQuiet plan (car_state plan h) → is_over st h ≡ false → IsTurn st charger h e → GoesUndisturbed c cc st plan h e → GoesWell c cc st plan (e ∷ h)
 turned c cc st plan h (ChargerTells event) charger n q r g t d =
     let w : GoesWell c cc st plan h = n.well in
-    goes c cc st plan (ChargerTells event) h w tt refl
+    goes c cc st plan (ChargerTells event) h w tt refl refl
     (posts_hear c cc st.post plan w.words (station_state st h) (car_state plan h) (to_station h) (to_car h) (to_station h) (moment h) (Plant event) n.pair w.phase q r tt refl d)
 turned c cc st plan h (StationHears bytes) charger n q r g t d =
     let w : GoesWell c cc st plan h = n.well in
     let i = t.1 in
-    goes c cc st plan (StationHears bytes) h w tt refl
+    goes c cc st plan (StationHears bytes) h w tt refl refl
     (posts_hear c cc st.post plan w.words (station_state st h) (car_state plan h) (to_station h) (to_car h) (drop (length bytes) (to_station h)) (moment h) (Bytes bytes) n.pair w.phase q r tt
     (piece_by _ (to_station h) bytes i.bytes_are) d)
 turned c cc st plan h (CarHears bytes) charger n q r g t d =
     let w : GoesWell c cc st plan h = n.well in
     let i = t.2 in
-    goes c cc st plan (CarHears bytes) h w tt refl
+    goes c cc st plan (CarHears bytes) h w tt refl refl
     (car_hears (car_cause h) c cc st.post plan w.words (station_state st h) (car_steps h) (to_station h) (to_car h) (drop (length bytes) (to_car h)) (Bytes bytes) (moment h)
     (lives c cc st plan w.words h w.phase n.holds g)
     (cars_hear c cc st.post plan w.words (station_state st h) (car_state plan h) (to_station h) (to_car h) (drop (length bytes) (to_car h)) (moment h) (Bytes bytes) n.pair w.phase r tt
     (piece_by _ (to_car h) bytes i.bytes_are) d))
 turned c cc st plan h TimePasses charger n q r g t d =
     let w : GoesWell c cc st plan h = n.well in
-    goes c cc st plan TimePasses h w tt refl
+    goes c cc st plan TimePasses h w tt refl refl
     (car_hears (car_cause h) c cc st.post plan w.words (station_state st (TimePasses ∷ h)) (car_steps h) (to_station h) (to_car h) (to_car h) Clock (moment h + 10)
     (lives c cc st plan w.words h w.phase n.holds g)
     (cars_hear c cc st.post plan w.words (station_state st (TimePasses ∷ h)) (car_state plan h) (to_station h) (to_car h) (to_car h) (moment h + 10) Clock n.pair
@@ -201,18 +209,24 @@ step : (c : post.Codecs) (cc : car.Codecs) (st : Station) (plan : CarPlan) (h : 
     → GoesUndisturbed c cc st plan h e → GoesWell c cc st plan (e ∷ h)
 step c cc st plan h (StationDoes reading act) n i f l d =
     let w : GoesWell c cc st plan h = n.well in
-    goes c cc st plan (StationDoes reading act) h w tt refl
+    goes c cc st plan (StationDoes reading act) h w tt refl refl
     (posts_go_on c cc st.post plan st.limit w.words (station_state st h) (car_state plan h) (to_station h) (to_car h) reading act n.pair w.phase (d w.words w.phase) l f)
 step c cc st plan h (CarReads judged) n i f l d =
     let w : GoesWell c cc st plan h = n.well in
     let reads : car_next.MayRead cc plan (car_state plan h) judged = subst (λ (o : Option CarPlan). CarMayReadBy cc o h judged) n.plan_is f.1 in
     let r : HasRead c cc st.post plan w.words (station_state st h) (car_state plan h) (to_station h) (to_car h) judged =
     cars_read c cc st.post plan w.words (station_state st h) (car_state plan h) (to_station h) (to_car h) judged n.pair w.phase f.0 reads in
-    record { words = r.behind; phase = r.phase; ok = (r.ok, w.ok); exchanges_are = counted h judged w.words r.behind w.exchanges_are r.ok r.next }
+    record {
+      words = r.behind;
+      phase = r.phase;
+      ok = (r.ok, w.ok);
+      exchanges_are = counted h judged w.words r.behind w.exchanges_are r.ok r.next;
+      repeats_are = repeated c cc st plan h judged w.words r.behind w.phase r.phase r.next w.repeats_are;
+    }
 step c cc st plan h (CarDoes act) n i f l d =
     let w : GoesWell c cc st plan h = n.well in
     let acts : car_next.MayAct cc plan (car_state plan h) act true = subst (λ (o : Option CarPlan). CarMayDoBy cc o h act) n.plan_is f.1 in
-    goes c cc st plan (CarDoes act) h w tt refl
+    goes c cc st plan (CarDoes act) h w tt refl refl
     (cars_go_on c cc st.post plan w.words (station_state st h) (car_state plan h) (to_station h) (to_car h) act n.pair w.phase l acts)
 step c cc st plan h (ChargerTells event) n i f l d = turns c cc st plan h (ChargerTells event) n f d
 step c cc st plan h (StationHears bytes) n i f l d = turns c cc st plan h (StationHears bytes) n f d
@@ -231,6 +245,7 @@ begins c cc st plan = record {
       (record { station = refl; car = refl });
   ok = (tt, tt);
   exchanges_are = refl;
+  repeats_are = refl;
 }
 
 goes_on : (c : post.Codecs) (cc : car.Codecs) (st : Station) (plan : CarPlan) (session : List Happening) → IsPair c cc st.post (joined plan) → AllByRecursion IsWithin session

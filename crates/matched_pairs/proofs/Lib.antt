@@ -12,6 +12,7 @@ pub mod PostsHear
 pub mod CarsHear
 pub mod Requested
 pub mod Keeps
+pub mod Repeats
 pub mod Courses
 pub mod Stopping
 pub mod Ends

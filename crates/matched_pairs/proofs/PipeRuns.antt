@@ -1,5 +1,5 @@
 -- The run of the pipe of plans that go together.
-use Rattle.std.proofs.Common.{◌≡◌, ℕ, ◌<◌, ◌≤◌, Bool, true, false, List, [], ◌∷◌, MatchBool, All, Some, length, refl, ap, sym, subst, tt, ◌∙◌, arith}
+use Rattle.std.proofs.Common.{◌≡◌, ℕ, ◌<◌, ◌≤◌, Bool, true, false, List, [], ◌∷◌, MatchBool, All, Some, length, refl, ap, sym, subst, ◌∙◌, arith}
 use Rattle.std.proofs.lemmas.List.Elements.{All-head}
 use Rattle.std.specs.List.{AllByRecursion}
 use Rattle.session_words.specs.declared.plan.CarPlan.{CarPlan}
@@ -66,7 +66,7 @@ port_there n e = omega (arith, e)
 
 car_joined : (plan : CarPlan) → IsCarPlan plan → IsCarPlan (ported (joined plan))
 car_joined plan r = record {
-  tcp_there = λ e. tt;
+  tcp_there = λ e. refl;
   tcp = port_there 15118 refl;
   turns = r.turns;
   dialects = r.dialects;

@@ -4,6 +4,7 @@ pub mod Moves
 pub mod Acts
 pub mod Hearings
 pub mod Requests
+pub mod Repeats
 pub mod Courses
 pub mod Stopping
 pub mod Causes
