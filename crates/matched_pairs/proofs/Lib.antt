@@ -50,3 +50,4 @@ pub mod Paces
 pub mod Deadlines
 pub mod Told
 pub mod PipeRuns
+pub mod Few
