@@ -50,4 +50,5 @@ pub mod Paces
 pub mod Deadlines
 pub mod Told
 pub mod PipeRuns
-pub mod Few
+pub mod FewExchanges
+pub mod Steady
