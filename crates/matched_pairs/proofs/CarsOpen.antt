@@ -10,7 +10,9 @@ use Rattle.session_words.specs.declared.cause.EndCause.TheVariants as cause
 use Rattle.session_words.specs.declared.plan.CarPlan.{CarPlan}
 use Rattle.session_words.specs.declared.plan.PostPlan.{PostPlan}
 use Rattle.session_words.specs.declared.word.Reply.{Reply}
+use Rattle.session_words.specs.Causes.{number_of}
 use Rattle.v2gtp_frames.specs.declared.FrameFault.{FrameFault}
+use Rattle.v2gtp_frames.specs.Frames.{frame}
 use Rattle.v2gtp_frames.specs.Reading.{whole_at}
 use Rattle.post_spec.specs.Codecs as post
 use Rattle.post_spec.specs.Steps.{Event, Came, Bytes, Gone, Datagram, Plant, Clock, Over}
@@ -178,7 +180,7 @@ charges None event live = tt
 charges (Some session) event live = if_ends (plant_cause event) live
 
 events_close_nothing : (plan : CarPlan) (event : Event) (k : State) → ClosesNothing (eventing plan event k).order
-events_close_nothing plan (Came token) k = greets k.stood k.live
+events_close_nothing plan (Came arrived) k = greets k.stood k.live
 events_close_nothing plan (Bytes bytes) k = tt
 events_close_nothing plan Gone k = in_ends k.session cause.Gone k.live
 events_close_nothing plan (Datagram bytes) k = calls_if (is_searching plan k.search) _
@@ -225,7 +227,7 @@ heard_stage : (event : Event) (at : ℕ) (o : Option Session) (x : Session) → 
 heard_stage event at (Some y) x i e = (y, refl, ap (λ (z : Session). z.stage) (some_session (heard_in event y) x e))
 heard_stage (Bytes bytes) at None x i e = absurd (some_none x (sym e))
 heard_stage Clock at None x i e = absurd (some_none x (sym e))
-heard_stage (Came token) at None x i e = absurd i
+heard_stage (Came arrived) at None x i e = absurd i
 heard_stage Gone at None x i e = absurd i
 heard_stage (Datagram bytes) at None x i e = absurd i
 heard_stage (Plant event) at None x i e = absurd i
@@ -276,8 +278,8 @@ acts_on (states.Call port) c plan d act earlier f i k =
 acts_on (states.Drive o) c plan d act earlier f i k =
     subst (λ (a : Act). CarOpens (acted a true d) (car_ordered a earlier)) (sym i)
     (gives o d earlier (drive_so d.agenda.port d.agenda.order d.agenda.spoken d.agenda.ending d.agenda.seeks o f) k)
-acts_on (states.Speak spoken) c plan d act earlier f i k = subst (λ (a : Act). CarOpens (acted a true d) (car_ordered a earlier)) (sym i.act_is) (says spoken _ d earlier k)
-acts_on (states.Finish cause) c plan d act earlier f i k = subst (λ (a : Act). CarOpens (acted a true d) (car_ordered a earlier)) (sym i.0) (finishes _ d earlier cause f k)
+acts_on (states.Speak spoken) c plan d act earlier f i k = subst (λ (a : Act). CarOpens (acted a true d) (car_ordered a earlier)) (sym i.act_is) (says spoken (frame i.payload) d earlier k)
+acts_on (states.Finish cause) c plan d act earlier f i k = subst (λ (a : Act). CarOpens (acted a true d) (car_ordered a earlier)) (sym i.0) (finishes (number_of cause) d earlier cause f k)
 acts_on states.Inquire c plan d act earlier f i k =
     subst (λ (a : Act). CarOpens (acted a true d) (car_ordered a earlier)) (sym i) (record { stage = k.stage; ending = k.ending; over = k.over })
 
@@ -478,7 +480,7 @@ ends_from NoneYet (Read other ys) c cs post_plan plan s k t ts tc w why n p q i 
 ends_from (Read dialect xs) (Read other ys) c cs post_plan plan s k t ts tc w why n p q i e =
     let ended : has_ended post_plan plan token other ys ≡ true = ends_behind _ c cs post_plan plan (both post_plan plan token other ys) s t ts tc why q.1 e in
     let last : is_ending (both post_plan plan token dialect xs).car.phase ≡ true =
-    sym (ap (λ (d : Dialect). has_ended post_plan plan token d ys) n.0 ∙ ap (λ (zs : List Outside). has_ended post_plan plan token dialect zs) n.2.1) ∙ ended in
+    sym (ap (λ (d : Dialect). has_ended post_plan plan token d ys) n.0 ∙ ap (λ (zs : List Outside). has_ended post_plan plan token dialect zs) n.2) ∙ ended in
     let at = staged_by (has_ended post_plan plan token dialect xs) c cs post_plan plan (both post_plan plan token dialect xs) s k ts tc w p.1 i in
     let here : IsStaged k (both post_plan plan token dialect xs).car = at.0 in
     record {

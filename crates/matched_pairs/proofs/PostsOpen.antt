@@ -7,6 +7,7 @@ use Rattle.session_words.specs.declared.cause.EndCause.{EndCause}
 use Rattle.session_words.specs.declared.facts.Facts.{Facts}
 use Rattle.session_words.specs.declared.plan.CarPlan.{CarPlan}
 use Rattle.session_words.specs.declared.plan.PostPlan.{PostPlan}
+use Rattle.session_words.specs.Causes.{number_of}
 use Rattle.session_rules.specs.declared.stage.Stage.{Stage}
 use Rattle.post_spec.specs.Codecs as post
 use Rattle.post_spec.specs.Sessions.{brought}
@@ -45,7 +46,7 @@ use Rattle.matched_pairs.proofs.PostActs.{posts_go_on}
 use Rattle.matched_pairs.proofs.Requested.{whole_is_read, ends_do}
 use Rattle.matched_pairs.proofs.Keeps.{posts_keep}
 use Rattle.matched_pairs.proofs.Ends.{gone_before_hearing}
-use Rattle.matched_pairs.proofs.Stops.{is_stopped, same_confirmed, stopped_before, stops_by, stopped_behind_end, was_open, ordered_open}
+use Rattle.matched_pairs.proofs.Stops.{is_behind_stop, is_stopped, same_confirmed, stopped_before, stops_by, stopped_behind_end, was_open, ordered_open}
 
 some_none : {A : Type 0} (a : A) → Some a ≡ None → ⊥
 some_none a e = cc
@@ -134,8 +135,8 @@ heard_row None (Some y) clock bytes x e l = record {
   session_is = refl;
   stopped = ap (λ (z : Session). is_stopped z.stage.row) (some_session (with_bytes bytes y) x e) ∙ l;
 }
-heard_row (Some token) o clock bytes x e l =
-    absurd (true_false true refl (sym l ∙ sym (ap (λ (z : Session). is_stopped z.stage.row) (some_session (with_bytes bytes _) x e))))
+heard_row (Some named) o clock bytes x e l =
+    absurd (true_false true refl (sym l ∙ sym (ap (λ (z : Session). is_stopped z.stage.row) (some_session (with_bytes bytes (states.first_session named clock)) x e))))
 
 pub hears : (plan : PostPlan) (s : State) (at : ℕ) (event : Event) (earlier : Option Order) → IsQuiet plan s → PostOpens s earlier → PostOpens (hearing at event s) earlier
 hears plan s at event earlier q k = record {
@@ -192,7 +193,7 @@ acts_on (states.Give o) c t act earlier b f d k =
     subst (λ (a : Act). PostOpens (acted a true t) (station_ordered a earlier)) (sym d)
     (gives o t earlier (give_so t.agenda.datagram t.agenda.order t.agenda.reply t.agenda.ending o f) k)
 acts_on (states.Say spoken) c t act earlier b f d k = subst (λ (a : Act). PostOpens (acted a true t) (station_ordered a earlier)) (sym d.2) (says d.0 t earlier b k)
-acts_on (states.Finish cause) c t act earlier b f d k = subst (λ (a : Act). PostOpens (acted a true t) (station_ordered a earlier)) (sym d.0) (ends _ t earlier cause f k)
+acts_on (states.Finish cause) c t act earlier b f d k = subst (λ (a : Act). PostOpens (acted a true t) (station_ordered a earlier)) (sym d.0) (ends (number_of cause) t earlier cause f k)
 
 -- ---- it reads a request
 
@@ -201,10 +202,10 @@ asks : (c : post.Codecs) (post_plan : PostPlan) (plan : CarPlan) (limit : ℕ) (
 asks c post_plan plan limit b s r act earlier m t i k =
     let x : Outside = exchange s.facts s.facts r.shown in
     let n : HasAnswered post_plan plan b x (decided post_plan s) t.session (filled post_plan (Some r) s) = t.kept in
-    let before = λ e. was_open s.agenda.order earlier (read_order c post_plan limit s r act i)
-        (k.row t.session t.session_is (ap (λ (z : Stage). is_stopped z.row) t.stage_is ∙ stopped_before post_plan b m e)) in
-    let opens = λ e. ap (λ (a : Agenda). ordered_behind a.order earlier) n.agenda
-        ∙ ordered_open post_plan plan b x (decided post_plan s).live earlier t.answered before (stops_by post_plan plan b x t.answered e) in
+    let before : is_behind_stop b.car.phase ≡ true → earlier ≡ Some order.Open = λ e. was_open s.agenda.order earlier (read_order c post_plan limit s r act i)
+    (k.row t.session t.session_is (ap (λ (z : Stage). is_stopped z.row) t.stage_is ∙ stopped_before post_plan b m e)) in
+    let opens : is_stopped (judged post_plan plan b x).row ≡ true → IsOpening (filled post_plan (Some r) s) earlier = λ e. ap (λ (a : Agenda). ordered_behind a.order earlier) n.agenda
+    ∙ ordered_open post_plan plan b x (decided post_plan s).live earlier t.answered before (stops_by post_plan plan b x t.answered e) in
     acts_on i.todo c (filled post_plan (Some r) s) act earlier (ap (λ (a : Agenda). a.behind_reply) n.agenda) i.acts i.done (record {
       row = λ y e l. opens (ap (λ (z : Stage). is_stopped z.row) (sym n.stage) ∙ ap (λ (z : Session). is_stopped z.stage.row) (some_session n.new y (sym n.session_is ∙ e)) ∙ l);
       ending = λ cause e. opens (stopped_behind_end post_plan plan b x cause t.answered (sym (ap (λ (a : Agenda). a.ending) n.agenda) ∙ e));
@@ -221,7 +222,7 @@ replies : (post_plan : PostPlan) (plan : CarPlan) (b : Both) (s : State) (earlie
     → IsToSend post_plan s (judged post_plan plan b x) spoken (end_of b.car.phase) → PostOpens s earlier → Decides post_plan s earlier
 replies post_plan plan b s earlier x spoken a t k =
     let none : (decided post_plan s).agenda.order ≡ None = ap (λ (z : Agenda). z.order) t.agenda_is in
-    let kept = λ e. ap (λ (o : Option Order). ordered_behind o earlier) none ∙ was_open s.agenda.order earlier (undone post_plan s none) e in
+    let kept : IsOpening s earlier → IsOpening (decided post_plan s) earlier = λ e. ap (λ (o : Option Order). ordered_behind o earlier) none ∙ was_open s.agenda.order earlier (undone post_plan s none) e in
     record {
       behind = ap (λ (z : Agenda). z.behind_reply) t.agenda_is;
       opens = record {
