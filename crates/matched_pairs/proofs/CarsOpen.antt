@@ -1,5 +1,5 @@
 -- The last order of a car to its contactor, by what it keeps.
-use Rattle.std.proofs.Common.{◌≡◌, ℕ, Bool, true, false, ◌&&◌, not, if◌then◌else◌, List, [], ◌∷◌, Option, Some, None, Result, Ok, Err, refl, ap, sym, subst, ◌∙◌, ◌⊎◌, inl, inr}
+use Rattle.std.proofs.Common.{◌≡◌, ℕ, Bool, true, false, ◌&&◌, not, if◌then◌else◌, List, [], Option, Some, None, Result, Ok, Err, refl, ap, sym, subst, ◌∙◌, ◌⊎◌}
 use Rattle.std.specs.Option.{option_map}
 use Rattle.charge_world.specs.declared.heard.PlantEvent.{PlantEvent}
 use Rattle.charge_world.specs.declared.offer.Dialect.{Dialect}
@@ -18,25 +18,23 @@ use Rattle.post_spec.specs.Codecs as post
 use Rattle.post_spec.specs.Steps.{Event, Came, Bytes, Gone, Datagram, Plant, Clock, Over}
 use Rattle.station_spec.specs.States as station
 use Rattle.station_spec.specs.Deciding.{opening_if}
-use Rattle.car_rules.specs.declared.deadlines.CarDue.{CarDue}
-use Rattle.car_rules.specs.declared.searching.Search.{Search}
 use Rattle.car_rules.specs.declared.stage.CarPhase.{CarPhase}
 use Rattle.car_rules.specs.declared.stage.CarPhase.TheVariants as phase
 use Rattle.car_rules.specs.declared.stage.CarStage.{CarStage}
 use Rattle.car_rules.specs.Deadlines.{due_at, hit}
-use Rattle.car_rules.specs.Moves.{is_again, order_of, stage_behind, stops}
+use Rattle.car_rules.specs.Moves.{is_again, stage_behind, stops}
 use Rattle.car_rules.specs.Replies.{is_ending, reply_cause, plant_cause}
 use Rattle.car_rules.specs.Searching.{is_searching}
 use Rattle.car_rules.specs.Stages.{first_stage}
 use Rattle.car_spec.specs.Codecs as car
 use Rattle.car_spec.specs.Codecs.{Chosen, Told, WrongSide, Refused}
-use Rattle.car_spec.specs.Steps.{Spoken, Act, Seek, Dial, Give, Say, End}
+use Rattle.car_spec.specs.Steps.{Spoken, Act, Give, Say, End}
 use Rattle.car_spec.specs.States.{Agenda, Session, State, Todo, is_none, is_done, first_of, first}
 use Rattle.car_spec.specs.States as states
 use Rattle.car_spec.specs.Due.{all_deadlines, is_due}
-use Rattle.car_spec.specs.Deciding.{ending_if, timing, calling, charging, greeting, ending_in, eventing, fronting_by, fronting, repeating, from_part, decided}
+use Rattle.car_spec.specs.Deciding.{ending_if, timing, charging, greeting, ending_in, eventing, fronting_by, fronting, repeating, from_part, decided}
 use Rattle.car_spec.specs.Hearing.{session_heard, heard_in, hearing}
-use Rattle.car_spec.specs.Judging.{Payload, payload_in, wanted, IsRead, passed, ends, waiting, gone_on, moved, replied_by, replied, judged, judged_in, read}
+use Rattle.car_spec.specs.Judging.{Payload, payload_in, IsRead, passed, ends, waiting, gone_on, moved, replied_by, replied, judged, judged_in, read}
 use Rattle.car_spec.specs.Acting.{awaiting, acted}
 use Rattle.car_spec.specs.Next.{IsQuiet, IsDone, MayAct, MayRead}
 use Rattle.car_laws.proofs.Decided.{decided_by}
@@ -46,11 +44,11 @@ use Rattle.pair_words.specs.Exchanges.{Both, Outside}
 use Rattle.pair_words.specs.Laws.{both, has_ended}
 use Rattle.pair_words.specs.Orders.{ordered_behind}
 use Rattle.pair_deeds.specs.Cars.{IsStill}
-use Rattle.matched_pairs.specs.Ends.{IsToSay, Awaits, Pauses, IsToFinish}
+use Rattle.matched_pairs.specs.Ends.{IsToSay, Awaits, IsToFinish}
 use Rattle.matched_pairs.specs.Hearings.{IsOfCar}
 use Rattle.matched_pairs.specs.Phases.{Begins, IsToOffer, Offered, Offers, Responded, Talks, IsToAsk, Rests, Asks, IsToReply, Closes, Replies, Ends, IsToStop, Stopped, Words, NoneYet, Read, TalksBy, IsIn}
 use Rattle.matched_pairs.specs.Moves.{IsNext, HasRead}
-use Rattle.matched_pairs.proofs.CarPhases.{same_session, same_over, still_acts, ended_acts, say_reads, finish_reads}
+use Rattle.matched_pairs.proofs.CarPhases.{same_session, same_over, still_acts, ended_acts, say_reads}
 use Rattle.matched_pairs.proofs.CarReads.{ends_reads}
 use Rattle.matched_pairs.proofs.Courses.{begins_live, talks_live}
 use Rattle.matched_pairs.proofs.Ends.{read_over}

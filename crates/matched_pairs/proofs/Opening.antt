@@ -1,8 +1,7 @@
 -- What was ordered in the first session follows what both ends keep, so that both contactors are left open.
-use Rattle.std.proofs.Common.{◌≡◌, ℕ, ◌+◌, Bool, true, false, if◌then◌else◌, List, [], ◌∷◌, ◌++◌, Option, Some, None, is_some, refl, ap, sym, subst, ◌∙◌}
+use Rattle.std.proofs.Common.{◌≡◌, ℕ, ◌+◌, true, false, if◌then◌else◌, List, [], ◌∷◌, ◌++◌, Option, Some, None, is_some, refl, ap, sym, subst}
 use Rattle.std.specs.List.{AllByRecursion}
 use Rattle.charge_world.specs.declared.ports.Order.{Order}
-use Rattle.charge_world.specs.declared.ports.Order.TheVariants as order
 use Rattle.session_words.specs.declared.plan.CarPlan.{CarPlan}
 use Rattle.post_spec.specs.Codecs as post
 use Rattle.post_spec.specs.Steps.{Event, Bytes, Plant, Clock}
@@ -21,7 +20,7 @@ use Rattle.matched_pairs.specs.Ends.{IsGone, HasEnded}
 use Rattle.matched_pairs.specs.Moves.{IsPair}
 use Rattle.matched_pairs.specs.Courses.{AllGoUndisturbed, GoesUndisturbed, GoesWell}
 use Rattle.matched_pairs.specs.Stopping.{HasStopped}
-use Rattle.matched_pairs.specs.Opening.{AreOpened, ContactorsAreOpened}
+use Rattle.matched_pairs.specs.Opening.{ContactorsAreOpened}
 use Rattle.matched_pairs.proofs.CarReads.{cars_read}
 use Rattle.matched_pairs.proofs.Courses.{true_false, plan_is, car_rests, sessions_go_well}
 use Rattle.matched_pairs.proofs.Stopping.{sessions_stop}

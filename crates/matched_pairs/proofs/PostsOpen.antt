@@ -4,39 +4,36 @@ use Rattle.std.specs.Option.{option_map}
 use Rattle.charge_world.specs.declared.ports.Order.{Order}
 use Rattle.charge_world.specs.declared.ports.Order.TheVariants as order
 use Rattle.session_words.specs.declared.cause.EndCause.{EndCause}
-use Rattle.session_words.specs.declared.facts.Facts.{Facts}
 use Rattle.session_words.specs.declared.plan.CarPlan.{CarPlan}
 use Rattle.session_words.specs.declared.plan.PostPlan.{PostPlan}
 use Rattle.session_words.specs.Causes.{number_of}
 use Rattle.session_rules.specs.declared.stage.Stage.{Stage}
 use Rattle.post_spec.specs.Codecs as post
 use Rattle.post_spec.specs.Sessions.{brought}
-use Rattle.post_spec.specs.Steps.{Event, Act, Give, Send, Answer, End, Reading}
+use Rattle.post_spec.specs.Steps.{Event, Act, Give, Send, End, Reading}
 use Rattle.station_spec.specs.States.{Spoken, Agenda, Session, State, Todo, is_none, is_done, first_of, first}
 use Rattle.station_spec.specs.States as states
 use Rattle.station_spec.specs.Deciding.{from_part, decided}
-use Rattle.station_spec.specs.Hearing.{arrival, session_opened, with_bytes, hearing}
-use Rattle.station_spec.specs.Judging.{Payload, wanted, filled, IsRead}
+use Rattle.station_spec.specs.Hearing.{session_opened, with_bytes, hearing}
+use Rattle.station_spec.specs.Judging.{Payload, filled, IsRead}
 use Rattle.station_spec.specs.Acting.{since_order, replied, agenda_said, acted}
 use Rattle.station_spec.specs.Next.{IsQuiet, IsDone, Acts}
 use Rattle.station_spec.specs.Sharing.{Shows}
 use Rattle.station_laws.proofs.Decided.{same_session}
-use Rattle.car_rules.specs.declared.stage.CarPhase.{CarPhase}
-use Rattle.car_rules.specs.declared.stage.CarPhase.TheVariants as phase
 use Rattle.car_spec.specs.Codecs as car
 use Rattle.car_spec.specs.States as car_states
 use Rattle.pipe_spec.specs.Histories.{token, station_says}
 use Rattle.pipe_spec.specs.Counts.{contactor_order, station_ordered}
 use Rattle.pipe_laws.proofs.Station as station
 use Rattle.pair_words.specs.Exchanges.{Both, Outside, judged}
-use Rattle.pair_words.specs.Meeting.{Meets, Suits}
-use Rattle.pair_words.specs.Laws.{both, end_of, has_ended, IsAnswered}
+use Rattle.pair_words.specs.Meeting.{Meets}
+use Rattle.pair_words.specs.Laws.{both, end_of, IsAnswered}
 use Rattle.pair_words.specs.Orders.{ordered_behind}
 use Rattle.pair_words.proofs.Exchanges.{exchanges_go_well}
 use Rattle.pair_words.proofs.Sessions.{they_meet}
-use Rattle.pair_readings.specs.Readings.{answers, HasAnswered}
+use Rattle.pair_readings.specs.Readings.{HasAnswered}
 use Rattle.pair_deeds.specs.Posts.{IsStill}
-use Rattle.matched_pairs.specs.Ends.{HasCome, Listens, IsToSend, IsToEnd, GoesOnBy}
+use Rattle.matched_pairs.specs.Ends.{HasCome, Listens, IsToSend, GoesOnBy}
 use Rattle.matched_pairs.specs.Phases.{Begins, IsToOffer, Offered, Offers, Responded, exchange, Talks, IsToAsk, Rests, Asks, IsToReply, Closes, Replies, Words, NoneYet, Read, TalksBy, IsIn}
 use Rattle.matched_pairs.specs.Moves.{IsPair, IfRead, SuitsWords}
 use Rattle.matched_pairs.specs.Requests.{HasKept}
