@@ -267,7 +267,7 @@ talks_reads c cc post_plan plan dialect xs s k to_station to_car w p are goes_on
 talks_reads c cc post_plan plan dialect xs s k to_station to_car w p are goes_on (Replies facts later shown payload unread fits encodes goes a e comes) q i =
     replies_front c cc post_plan plan dialect xs s k to_station to_car w facts later shown payload unread p are goes_on fits encodes goes a e comes (front payload unread to_car comes) q i
 
-ends_reads : (cc : car.Codecs) (post_plan : PostPlan) (plan : CarPlan) (s : State) (k : car_states.State) (to_station to_car : List ℕ) (w : car.Judged) → Ends post_plan plan s k to_station to_car
+pub ends_reads : (cc : car.Codecs) (post_plan : PostPlan) (plan : CarPlan) (s : State) (k : car_states.State) (to_station to_car : List ℕ) (w : car.Judged) → Ends post_plan plan s k to_station to_car
     → MayRead cc plan k w → ⊥
 ends_reads cc post_plan plan s k to_station to_car w (IsToStop order g finish none) i = finish_reads cc plan k order cause.Stopped w finish i
 ends_reads cc post_plan plan s k to_station to_car w (Stopped g ended none) i = ended_reads cc plan k w ended i

@@ -47,7 +47,7 @@ none_opened : (arrived : Option ℕ) (clock : ℕ) (o : Option Session) → sess
 none_opened None clock o e = (e, refl)
 none_opened (Some token) clock o e = absurd (some_none _ e)
 
-gone_before_hearing : (event : Event) (at : ℕ) (s : State) → station.IsGone (hearing at event s) → station.IsGone s
+pub gone_before_hearing : (event : Event) (at : ℕ) (s : State) → station.IsGone (hearing at event s) → station.IsGone s
 gone_before_hearing event at s g = none_opened s.arrived s.clock s.session (none_mapped (with_bytes (brought event)) (session_opened s.arrived s.clock s.session) g.0)
 
 judged_stays : (plan : PostPlan) (s : State) (session : Session) (w : post.Judged) (shown : ℕ) → (judged plan s session w shown).session ≡ None → ⊥
@@ -116,7 +116,7 @@ judged_over (car.Told r) plan s session = told_over session.stage plan s session
 judged_over car.WrongSide plan s session = refl
 judged_over car.Refused plan s session = refl
 
-read_over : (o : Option car_states.Session) (plan : CarPlan) (s : car_states.State) (w : car.Judged) → (car_judging.judged_in plan s o w).over ≡ s.over
+pub read_over : (o : Option car_states.Session) (plan : CarPlan) (s : car_states.State) (w : car.Judged) → (car_judging.judged_in plan s o w).over ≡ s.over
 read_over None plan s w = refl
 read_over (Some session) plan s w = judged_over w plan s session
 

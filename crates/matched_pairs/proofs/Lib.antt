@@ -21,6 +21,10 @@ pub mod Waiting
 pub mod Rows
 pub mod Places
 pub mod Contactors
+pub mod Stops
+pub mod PostsOpen
+pub mod CarsOpen
+pub mod Opening
 pub mod Beginning
 pub mod Events
 pub mod Undisturbed

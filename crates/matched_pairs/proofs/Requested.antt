@@ -100,7 +100,7 @@ talks_read c cs post_plan plan limit dialect xs s k to_station to_car r act goes
 talks_read c cs post_plan plan limit dialect xs s k to_station to_car r act goes (Replies facts later shown payload unread fits encodes ends a e comes) i = absurd (ends_reads _ c post_plan limit s r act _ ends i)
 
 -- without a request
-whole_is_read : (c : post.Codecs) (post_plan : PostPlan) (limit : ℕ) (b : Both) (s : State) (act : Act) (request unread way : List ℕ) → Meets post_plan b → Listens post_plan s b.post unread → Comes request unread way
+pub whole_is_read : (c : post.Codecs) (post_plan : PostPlan) (limit : ℕ) (b : Both) (s : State) (act : Act) (request unread way : List ℕ) → Meets post_plan b → Listens post_plan s b.post unread → Comes request unread way
     → Front request unread way → Acts c post_plan (Shows limit [] []) s None act true → ⊥
 whole_is_read c post_plan limit b s act request unread way m l k (OnItsWay w) i = quiet_acts c post_plan limit s None act (listens_quiet post_plan s b.post unread l w) i
 whole_is_read c post_plan limit b s act request unread way m l k (Whole u n) i =

@@ -9,6 +9,7 @@ pub mod Courses
 pub mod Stopping
 pub mod Causes
 pub mod Contactors
+pub mod Opening
 pub mod Limits
 pub mod Power
 pub mod Timely

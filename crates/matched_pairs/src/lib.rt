@@ -13,7 +13,8 @@ mod timing;
 
 pub use acting::{cars_act, cars_go_on, cars_read, posts_act, posts_do, posts_go_on, posts_keep};
 pub use going::{
-    causes_are_stops, contactors_follow, sessions_end_by_stop, sessions_go_well, sessions_stop,
+    causes_are_stops, contactors_are_opened, contactors_follow, sessions_end_by_stop,
+    sessions_go_well, sessions_stop,
 };
 pub use hearing::{cars_hear, posts_hear};
 pub use timing::{
