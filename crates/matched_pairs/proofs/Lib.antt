@@ -48,3 +48,4 @@ pub mod Cars
 pub mod Paces
 pub mod Deadlines
 pub mod Told
+pub mod Said
