@@ -49,3 +49,5 @@ pub mod Paces
 pub mod Deadlines
 pub mod Told
 pub mod Said
+pub mod Pieces
+pub mod Tells
