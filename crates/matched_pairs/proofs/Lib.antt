@@ -51,3 +51,4 @@ pub mod Told
 pub mod Said
 pub mod Pieces
 pub mod Tells
+pub mod Lasts
