@@ -52,3 +52,4 @@ pub mod Said
 pub mod Pieces
 pub mod Tells
 pub mod Lasts
+pub mod Few
