@@ -1,5 +1,5 @@
 -- The hearings of a first session are few: they are pieces of messages, events of the charger and ticks of the clock.
-use Rattle.std.proofs.Common.{◌≡◌, ℕ, suc, ◌+◌, ◌*◌, ◌<◌, ◌≤◌, Bool, true, false, if◌then◌else◌, List, [], ◌∷◌, ◌++◌, length, Option, Some, None, is_some, refl, ap, sym, subst, arith}
+use Rattle.std.proofs.Common.{◌≡◌, ℕ, suc, ◌+◌, ◌*◌, ◌<◌, ◌≤◌, true, false, if◌then◌else◌, List, [], ◌∷◌, length, Option, Some, None, is_some, refl, ap, sym, subst, arith}
 use Rattle.std.specs.List.{AllByRecursion}
 use Rattle.session_words.specs.declared.plan.CarPlan.{CarPlan}
 use Rattle.session_words.specs.Plans.{IsCarPlan}
@@ -12,7 +12,6 @@ use Rattle.pipe_spec.specs.Counts.{is_reply, exchanges, IsOkReply, IsOk}
 use Rattle.pipe_spec.specs.Turns.{Station}
 use Rattle.pipe_spec.specs.Runs.{IsRun, IsWithin}
 use Rattle.pipe_laws.specs.OneMessage.{IsShort}
-use Rattle.pipe_laws.specs.PipePasts.{IsFirst}
 use Rattle.pipe_laws.specs.Words.{words}
 use Rattle.pair_words.specs.Meeting.{ArePaired}
 use Rattle.matched_pairs.specs.Moves.{IsPair}
@@ -26,7 +25,7 @@ use Rattle.matched_pairs.proofs.Deadlines.{kept_in}
 use Rattle.matched_pairs.proofs.Said.{asked, answered, requests, AreFewSaid, said, few_said}
 use Rattle.matched_pairs.proofs.Pieces.{pieces, car_pieces, ArePieces, are_pieces}
 use Rattle.matched_pairs.proofs.Tells.{told, orders, coming, HasTold, has_told}
-use Rattle.matched_pairs.proofs.Lasts.{deeds, Lasts, lasts}
+use Rattle.matched_pairs.proofs.Lasts.{Lasts, lasts}
 
 true_false : true ≡ false → ⊥
 true_false e = cc

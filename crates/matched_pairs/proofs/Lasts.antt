@@ -1,12 +1,11 @@
 -- How long the first session lasts: a pause at most behind each order and each message of the post.
-use Rattle.std.proofs.Common.{◌≡◌, ℕ, suc, ◌+◌, ◌*◌, ◌≤◌, Bool, true, false, if◌then◌else◌, List, [], ◌∷◌, ◌++◌, Option, Some, None, refl, ap, sym, subst, ◌∙◌, arith}
+use Rattle.std.proofs.Common.{◌≡◌, ℕ, suc, ◌+◌, ◌*◌, ◌≤◌, Bool, true, false, if◌then◌else◌, List, [], ◌∷◌, Option, Some, None, refl, ap, sym, subst, ◌∙◌, arith}
 use Rattle.std.specs.List.{AllByRecursion}
 use Rattle.std.specs.Option.{option_map}
 use Rattle.charge_world.specs.declared.ports.Order.{Order}
 use Rattle.charge_world.specs.declared.ports.Order.TheVariants as order
 use Rattle.session_words.specs.declared.plan.CarPlan.{CarPlan}
 use Rattle.session_words.specs.declared.plan.PostPlan.{PostPlan}
-use Rattle.v2gtp_frames.specs.Frames.{frame}
 use Rattle.session_rules.specs.Stages.{is_set_up}
 use Rattle.post_spec.specs.Codecs as post
 use Rattle.post_spec.specs.Steps.{Act, Give, Send, Answer, End, Reading}
@@ -16,8 +15,7 @@ use Rattle.station_spec.specs.Deciding.{decided}
 use Rattle.station_spec.specs.Hearing.{session_opened, with_bytes}
 use Rattle.station_spec.specs.Judging.{judged, taken_in, read, filled}
 use Rattle.station_spec.specs.Acting.{since_order, replied, acted}
-use Rattle.station_spec.specs.Next.{IsSpoken, IsDone, Acts}
-use Rattle.station_spec.specs.Sharing.{Shows}
+use Rattle.station_spec.specs.Next.{IsSpoken, IsDone}
 use Rattle.station_laws.proofs.Decided.{IsPlanned, planned}
 use Rattle.car_spec.specs.Codecs as car
 use Rattle.car_spec.specs.States as car_states

@@ -24,11 +24,11 @@ use Rattle.car_spec.specs.Hearing as car_hearing
 use Rattle.car_spec.specs.Acting as car_acting
 use Rattle.car_spec.specs.Next as car_next
 use Rattle.pipe_spec.specs.Histories.{Happening, CarComes, ChargerTells, StationHears, CarHears, TimePasses, StationDoes, CarReads, CarDoes, CarGoes, NumberIsDrawn, moment, joined, car_plan, car_cause, car_steps, station_says, car_says, to_station, to_car}
-use Rattle.pipe_spec.specs.Turns.{Station, station_state, car_state, StationMayDo, CarMayDoBy, IsPiece, MayTurn, Follows}
+use Rattle.pipe_spec.specs.Turns.{Station, station_state, car_state, StationMayDo, CarMayDoBy, IsPiece, Follows}
 use Rattle.pipe_spec.specs.Runs.{IsRun, IsWithin}
 use Rattle.pipe_laws.specs.OneMessage.{IsShort}
 use Rattle.pipe_laws.specs.Words.{words}
-use Rattle.pipe_laws.proofs.Messages.{Carries, HasRead, Loses, read_loses, more}
+use Rattle.pipe_laws.proofs.Messages.{Carries, HasRead, read_loses, more}
 use Rattle.pipe_laws.proofs.Station as of_post
 use Rattle.pipe_laws.proofs.Car as of_car
 use Rattle.pipe_laws.proofs.Pairs.{Right, IsOfCar, IsOnTheWay, IsOfStation, IsOnTheWayBack}

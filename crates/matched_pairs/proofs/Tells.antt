@@ -9,7 +9,7 @@ use Rattle.session_words.specs.declared.plan.CarPlan.{CarPlan}
 use Rattle.plant_sim.specs.Charger.{Charger, later, idle, came, ordered, Comes}
 use Rattle.plant_sim.specs.Charger as charger
 use Rattle.post_spec.specs.Codecs as post
-use Rattle.post_spec.specs.Steps.{Act, Give, Send, Answer, End, Reading}
+use Rattle.post_spec.specs.Steps.{Act, Give, Send, Answer, End}
 use Rattle.car_spec.specs.Codecs as car
 use Rattle.pipe_spec.specs.Chargers.{behind_act, IsCharger}
 use Rattle.pipe_spec.specs.Histories.{Happening, CarComes, ChargerTells, StationHears, CarHears, TimePasses, StationDoes, CarReads, CarDoes, CarGoes, NumberIsDrawn, moment}

@@ -1,5 +1,5 @@
 -- Own: how many hearings the first session of plans that match takes.
-use Rattle.std.specs.Prelude.{ℕ, ◌+◌, ◌*◌, ◌<◌, ◌≤◌, List}
+use Rattle.std.specs.Prelude.{◌+◌, ◌*◌, ◌<◌, ◌≤◌, List}
 use Rattle.std.specs.List.{AllByRecursion}
 use Rattle.session_words.specs.declared.plan.CarPlan.{CarPlan}
 use Rattle.post_spec.specs.Codecs as post
