@@ -53,6 +53,11 @@ pub mod Cars
 pub mod Paces
 pub mod Deadlines
 pub mod Told
+pub mod Said
+pub mod Pieces
+pub mod Tells
+pub mod Lasts
+pub mod Few
 pub mod PipeRuns
 pub mod FewExchanges
 pub mod Steady

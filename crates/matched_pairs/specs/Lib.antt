@@ -20,4 +20,5 @@ pub mod Bounds
 pub mod Paces
 pub mod Steps
 pub mod Told
+pub mod Few
 pub mod PipeRuns

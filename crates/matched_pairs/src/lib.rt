@@ -3,23 +3,24 @@
 //!
 //! Everything here is said of any codecs that agree and read back what they encode. The modules stand on each other in this order: `acting` (the phases of a
 //! session, and how the acts of both ends lead from one to the next), `hearing` (what a hearing of each end does in them), `going` (the session as far as no end
-//! has a cause of its own: its words, its contactor, its end) and `timing` (that none has one: power and deadlines).
+//! has a cause of its own: its words, its contactor, its end), `timing` (that none has one: power and deadlines) and `ending` (the whole run).
 #![tactic(auto)]
 
 mod acting;
+mod ending;
 mod going;
 mod hearing;
 mod timing;
 
 pub use acting::{cars_act, cars_go_on, cars_read, posts_act, posts_do, posts_go_on, posts_keep};
+pub use ending::pipe_runs_are_well;
 pub use going::{
     causes_are_stops, contactors_are_opened, contactors_follow, sessions_end_by_stop,
     sessions_go_well, sessions_stop,
 };
 pub use hearing::{cars_hear, posts_hear};
 pub use timing::{
-    clocks_are_right, closes_are_heard, deadlines_are_kept, moments_are_bounded,
-    pipe_runs_are_well, powers_are_within, sessions_are_undisturbed, sessions_keep_pace,
-    steady_sessions_end, time_passes_in_pauses, timely_sessions_are_undisturbed,
-    timely_sessions_end, words_are_told,
+    clocks_are_right, closes_are_heard, deadlines_are_kept, hearings_are_few, moments_are_bounded,
+    powers_are_within, sessions_are_undisturbed, sessions_keep_pace, steady_sessions_end,
+    time_passes_in_pauses, timely_sessions_are_undisturbed, timely_sessions_end, words_are_told,
 };
