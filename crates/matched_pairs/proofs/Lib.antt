@@ -61,3 +61,4 @@ pub mod Few
 pub mod PipeRuns
 pub mod FewExchanges
 pub mod Steady
+pub mod WellEnded

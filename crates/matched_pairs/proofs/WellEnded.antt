@@ -1,0 +1,55 @@
+-- A session of few repeats, whose steps are kept, ends well.
+use Rattle.std.proofs.Common.{◌≡◌, ℕ, ◌*◌, ◌+◌, ◌<◌, ◌≤◌, List, arith}
+use Rattle.std.specs.List.{AllByRecursion}
+use Rattle.session_words.specs.declared.plan.CarPlan.{CarPlan}
+use Rattle.post_spec.specs.Codecs as post
+use Rattle.car_spec.specs.Codecs as car
+use Rattle.pipe_spec.specs.Counts.{exchanges}
+use Rattle.pipe_spec.specs.Histories.{Happening, joined, station_hearings, car_hearings}
+use Rattle.pipe_spec.specs.Matched.{EndsWell}
+use Rattle.pipe_spec.specs.Runs.{IsSession}
+use Rattle.pipe_spec.specs.Turns.{Station}
+use Rattle.pipe_laws.specs.OneMessage.{IsShort}
+use Rattle.pipe_laws.specs.PipePasts.{IsFirst}
+use Rattle.matched_pairs.specs.Causes.{HasEndedByStop}
+use Rattle.matched_pairs.specs.Courses.{AllGoUndisturbed}
+use Rattle.matched_pairs.specs.Few.{AreFew}
+use Rattle.matched_pairs.specs.Moves.{IsPair}
+use Rattle.matched_pairs.specs.Opening.{AreOpened}
+use Rattle.matched_pairs.specs.Repeats.{repeats_read}
+use Rattle.matched_pairs.specs.Steps.{AllKeepSteps}
+use Rattle.matched_pairs.proofs.Courses.{sessions_go_well}
+use Rattle.matched_pairs.proofs.Deadlines.{deadlines_are_kept, steady_sessions_end}
+use Rattle.matched_pairs.proofs.Few.{hearings_are_few}
+use Rattle.matched_pairs.proofs.FewExchanges.{few_exchanges}
+use Rattle.matched_pairs.proofs.Opening.{contactors_are_opened}
+use Rattle.matched_pairs.proofs.PipeRuns.{all_short}
+use Rattle.matched_pairs.proofs.Timely.{timely_sessions_are_undisturbed}
+
+within : (n turns : ℕ) → n < 1000000000 → 1000000000 ≤ turns → n < turns
+within n turns l m = omega (arith, l, m)
+
+pub first_of : (c : post.Codecs) (cs : car.Codecs) (st : Station) (plan : CarPlan) (h : List Happening) → IsSession c cs st [] plan h → IsFirst c cs st plan h
+first_of c cs st plan h f = record { session = f.session; h_is = f.h_is; within = f.within; run = f.run }
+
+pub ends_well : (c : post.Codecs) (cs : car.Codecs) (st : Station) (plan : CarPlan) (h : List Happening) → IsPair c cs st.post (joined plan) → IsSession c cs st [] plan h
+    → AllByRecursion (IsShort 1032) h → AllKeepSteps (joined plan) h → repeats_read (joined plan) h ≤ 34 → 1000000000 ≤ st.turns → 1000000000 ≤ plan.turns → EndsWell plan h
+ends_well c cs st plan h p f short steps again turns car_turns =
+    let first : IsFirst c cs st plan h = first_of c cs st plan h f in
+    let l : AllByRecursion (IsShort 65544) h = all_short h short in
+    let calm : AllGoUndisturbed c cs st (joined plan) h =
+    timely_sessions_are_undisturbed c cs st plan h p first l (deadlines_are_kept c cs st plan h p first l steps) in
+    let few : exchanges h ≤ 64 + 4 * plan.cycles = few_exchanges c cs st (joined plan) h p.paired (sessions_go_well c cs st plan h p first l calm) again in
+    let heard : AreFew h = hearings_are_few c cs st plan h p first short steps few in
+    let in_turns : station_hearings h < st.turns = within (station_hearings h) st.turns heard.station turns in
+    let car_in_turns : car_hearings h < plan.turns = within (car_hearings h) plan.turns heard.car car_turns in
+    let ended : HasEndedByStop st (joined plan) h = steady_sessions_end c cs st plan h p f l steps in_turns car_in_turns in
+    let opened : AreOpened h = contactors_are_opened c cs st plan h p f l calm in_turns car_in_turns in
+    record {
+      few = few;
+      ok = ended.stopped.ok;
+      station = ended.station;
+      car = ended.car;
+      station_open = opened.station;
+      car_open = opened.car;
+    }
