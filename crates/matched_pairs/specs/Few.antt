@@ -16,7 +16,7 @@ pub record AreFew (h : List Happening) : Type 0 where
   pub station : station_hearings h < 1000000000
   pub car : car_hearings h < 1000000000
 
--- 1,032: a frame with a payload of 1,024 bytes. A session of matched plans has so few exchanges, as far as it has come
+-- 1,032: the bytes of a frame whose payload has 1,024. 64 + 4 * cycles: the exchanges of a session that ends well, at most
 abbrev pub HearingsAreFew : post.Codecs → car.Codecs → Type 0
 HearingsAreFew c cc = (st : Station) (plan : CarPlan) (h : List Happening) → IsPair c cc st.post (joined plan) → IsFirst c cc st plan h
     → AllByRecursion (IsShort 1032) h → AllKeepSteps (joined plan) h → exchanges h ≤ 64 + 4 * plan.cycles → AreFew h
