@@ -58,7 +58,7 @@ pub mod Pieces
 pub mod Tells
 pub mod Lasts
 pub mod Few
-pub mod PipeRuns
 pub mod FewExchanges
 pub mod Steady
 pub mod WellEnded
+pub mod PipeRuns

@@ -1,7 +1,6 @@
 -- The run of the pipe of plans that go together.
-use Rattle.std.proofs.Common.{◌≡◌, ℕ, ◌<◌, ◌≤◌, Bool, true, false, List, [], ◌∷◌, MatchBool, All, Some, length, refl, ap, sym, subst, ◌∙◌, arith}
+use Rattle.std.proofs.Common.{◌≡◌, ℕ, ◌≤◌, Bool, true, false, List, ◌∷◌, MatchBool, All, refl, sym, subst, arith}
 use Rattle.std.proofs.lemmas.List.Elements.{All-head}
-use Rattle.std.specs.List.{AllByRecursion}
 use Rattle.session_words.specs.declared.plan.CarPlan.{CarPlan}
 use Rattle.session_words.specs.declared.plan.PostPlan.{PostPlan}
 use Rattle.session_words.specs.declared.plan.SitePlan.{SitePlan}
@@ -9,38 +8,16 @@ use Rattle.session_words.specs.Plans.{IsCarPlan, IsPostPlan, IsSitePlan}
 use Rattle.session_rules.specs.Finishing.{is_ac}
 use Rattle.post_spec.specs.Codecs as post
 use Rattle.car_spec.specs.Codecs as car
-use Rattle.pipe_spec.specs.Histories.{Happening, CarComes, ChargerTells, StationHears, CarHears, TimePasses, StationDoes, CarReads, CarDoes, CarGoes, NumberIsDrawn, joined, ported, station_says, car_says, station_hearings}
+use Rattle.pipe_spec.specs.Histories.{joined, ported}
 use Rattle.pipe_spec.specs.Matched.{IsMatched, IsAcMatched, IsShared, IsSoonCharged}
 use Rattle.pipe_spec.specs.Runs.{IsStation}
 use Rattle.pipe_spec.specs.Turns.{Station}
-use Rattle.pipe_laws.specs.OneMessage.{IsShort}
 use Rattle.pair_words.specs.Meeting.{ArePaired}
-use Rattle.matched_pairs.specs.Causes.{HasEndedByStop}
-use Rattle.matched_pairs.specs.PipeRuns.{AreFit, GoTogether, PipeRunsAreWell}
-use Rattle.matched_pairs.proofs.Deadlines.{steady_sessions_end}
+use Rattle.matched_pairs.specs.PipeRuns.{GoTogether, PipeRunsAreWell}
+use Rattle.matched_pairs.proofs.WellEnded.{ends_well}
 
 one_first : (p q : PostPlan) (ps qs ts : List PostPlan) → ts ≡ p ∷ ps → ts ≡ q ∷ qs → p ≡ q
 one_first p q ps qs ts e f = cc
-
--- a message of 1,032 bytes at most is one of 65,544
-most : (n : ℕ) → n ≤ 1032 → n ≤ 65544
-most n e = omega (arith, e)
-
-short_too : (e : Happening) → IsShort 1032 e → IsShort 65544 e
-short_too (StationDoes reading act) s = most (length (station_says act)) s
-short_too (CarDoes act) s = most (length (car_says act)) s
-short_too (CarComes plan) s = tt
-short_too (ChargerTells event) s = tt
-short_too (StationHears bytes) s = tt
-short_too (CarHears bytes) s = tt
-short_too TimePasses s = tt
-short_too (CarReads judged) s = tt
-short_too CarGoes s = tt
-short_too NumberIsDrawn s = tt
-
-pub all_short : (h : List Happening) → AllByRecursion (IsShort 1032) h → AllByRecursion (IsShort 65544) h
-all_short [] s = tt
-all_short (e ∷ h) s = (short_too e s.0, all_short h s.1)
 
 -- the plan of a car that is joined has all that its session goes by
 ac_joined : (b : Bool) (p : PostPlan) (plan : CarPlan) → MatchBool b (IsAcMatched p plan) (Unit {0}) → MatchBool b (IsAcMatched p (joined plan)) (Unit {0})
@@ -89,9 +66,7 @@ paired site plan st seed s r is g =
     }
 
 pub pipe_runs_are_well : (c : post.Codecs) (cs : car.Codecs) → PipeRunsAreWell c cs
-pipe_runs_are_well c cs site plan seed h s r run short fit together steps turns car_turns =
-    let ended : HasEndedByStop run.station (joined plan) h =
-    steady_sessions_end c cs run.station plan h
+pipe_runs_are_well c cs site plan seed h s r target run short fit together steps again =
+    ends_well c cs run.station plan h
     (record { readings = fit.readings; agree = fit.agree; paired = paired site plan run.station seed s r run.station_is together; joined = refl })
-    run.session (all_short h short) steps (subst (λ (n : ℕ). station_hearings h < n) (sym run.station_is.turns) turns) car_turns in
-    record { ok = ended.stopped.ok; station = ended.station; car = ended.car }
+    run.session short steps again (subst (λ (n : ℕ). 1000000000 ≤ n) (sym run.station_is.turns) together.turns) together.car_turns

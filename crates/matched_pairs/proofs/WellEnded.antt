@@ -1,5 +1,5 @@
 -- A session of few repeats, whose steps are kept, ends well.
-use Rattle.std.proofs.Common.{◌≡◌, ℕ, ◌*◌, ◌+◌, ◌<◌, ◌≤◌, List, arith}
+use Rattle.std.proofs.Common.{◌≡◌, ℕ, ◌*◌, ◌+◌, ◌<◌, ◌≤◌, List, [], arith}
 use Rattle.std.specs.List.{AllByRecursion}
 use Rattle.session_words.specs.declared.plan.CarPlan.{CarPlan}
 use Rattle.post_spec.specs.Codecs as post
@@ -20,10 +20,9 @@ use Rattle.matched_pairs.specs.Repeats.{repeats_read}
 use Rattle.matched_pairs.specs.Steps.{AllKeepSteps}
 use Rattle.matched_pairs.proofs.Courses.{sessions_go_well}
 use Rattle.matched_pairs.proofs.Deadlines.{deadlines_are_kept, steady_sessions_end}
-use Rattle.matched_pairs.proofs.Few.{hearings_are_few}
 use Rattle.matched_pairs.proofs.FewExchanges.{few_exchanges}
 use Rattle.matched_pairs.proofs.Opening.{contactors_are_opened}
-use Rattle.matched_pairs.proofs.PipeRuns.{all_short}
+use Rattle.matched_pairs.proofs.Few.{all_short, hearings_are_few}
 use Rattle.matched_pairs.proofs.Timely.{timely_sessions_are_undisturbed}
 
 within : (n turns : ℕ) → n < 1000000000 → 1000000000 ≤ turns → n < turns

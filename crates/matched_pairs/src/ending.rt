@@ -1,7 +1,7 @@
 //! The run of the pipe of a station and a car whose plans go together.
 //!
-//! Proved: `pipe_runs_are_well` (it has ended by SessionStop at both ends, and all that the car read is of the OK class, as far as no step of the car takes too
-//! long and no turns are used up).
+//! Proved: `pipe_runs_are_well` (it ends well: within 64 exchanges and four times the charging replies, each of the OK class, by SessionStop at both ends, with
+//! both contactors ordered open last, as far as no step of the car takes too long that is asked for again and again, and these are few).
 
 ghost use Rattle.car_spec.specs.Codecs as car;
 ghost use Rattle.matched_pairs.specs.PipeRuns.{PipeRunsAreWell};

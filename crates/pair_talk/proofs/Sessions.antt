@@ -131,10 +131,11 @@ talks c cs site plan seed s new report n rules car_rules exchanges_are cause_is 
     let less : exchanges h < plan.turns = exchanges_are_within_turns c cs 1032 st (joined plan) h (omega arith) e.at.run e.at.short e.at.came car_rules.turns.0 in
     let run : IsPipeRun c cs site plan seed h =
     record { station = st; station_is = record { others = n.others; first = n.first; limit = refl; turns = refl; seed_is = refl }; session = e.session } in
+    let target : plan.target_voltage ≤ 30000 = subst (λ (p : CarPlan). p.target_voltage ≤ 30000) n.plan_is n.car_rules.target_voltage in
     record {
       history = h;
       run = run;
-      well = pipe_runs_are_well c cs site plan seed h rules car_rules run e.at.short;
+      well = pipe_runs_are_well c cs site plan seed h rules car_rules target run e.at.short;
       exchanges_are = exact (exchanges h) report.exchanges plan.turns (exchanges_are ∙ e.at.car.tally.exchanges_are) less car_rules.turns.1;
       cause_is = cause_is ∙ ap (λ (o : Option ℕ). unwrap_or o 0) e.at.car.tally.cause;
     }
