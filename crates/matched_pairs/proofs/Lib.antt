@@ -48,3 +48,8 @@ pub mod Cars
 pub mod Paces
 pub mod Deadlines
 pub mod Told
+pub mod Pending
+pub mod Repeating
+pub mod Unready
+pub mod Spoken
+pub mod Repeats
