@@ -53,3 +53,5 @@ pub mod Repeating
 pub mod Unready
 pub mod Spoken
 pub mod Repeats
+pub mod Early
+pub mod Quick

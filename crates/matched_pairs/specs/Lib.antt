@@ -19,3 +19,4 @@ pub mod Paces
 pub mod Steps
 pub mod Told
 pub mod Pending
+pub mod Quick
