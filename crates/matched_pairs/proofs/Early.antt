@@ -1,11 +1,10 @@
 -- What a request is asked again for is over within 300 ms.
-use Rattle.std.proofs.Common.{◌≡◌, ℕ, ◌<◌, ◌≤◌, nat_le, Bool, true, false, List, [], ◌∷◌, ◌++◌, Option, Some, None, refl, ap, sym, subst, ◌∙◌, ◌⊎◌, inl, inr, arith}
+use Rattle.std.proofs.Common.{◌≡◌, ℕ, ◌<◌, ◌≤◌, nat_le, Bool, true, false, List, [], ◌∷◌, Some, None, refl, ap, sym, subst, ◌∙◌, ◌⊎◌, inl, inr, arith}
 use Rattle.std.proofs.lemmas.Bool.Decides.{nat_tests}
 use Rattle.std.specs.List.{AllByRecursion}
 use Rattle.session_words.specs.declared.plan.CarPlan.{CarPlan}
 use Rattle.session_rules.specs.Finishing.{is_valid}
 use Rattle.post_spec.specs.Codecs as post
-use Rattle.post_spec.specs.Steps.{Act, Reading}
 use Rattle.station_spec.specs.States.{State}
 use Rattle.car_rules.specs.declared.stage.CarPhase.{CarPhase}
 use Rattle.car_rules.specs.declared.stage.CarPhase.TheVariants as phase

@@ -1,5 +1,5 @@
 -- One induction over the first session: in the steps that are done early either no time passed since the step began, or it is early.
-use Rattle.std.proofs.Common.{◌≡◌, ℕ, ◌+◌, ◌<◌, ◌≤◌, nat_le, Bool, true, false, if◌then◌else◌, List, [], ◌∷◌, ◌++◌, Option, Some, None, is_some, refl, ap, sym, subst, ◌∙◌, ◌⊎◌, inl, inr, arith}
+use Rattle.std.proofs.Common.{◌≡◌, ℕ, ◌+◌, ◌<◌, ◌≤◌, Bool, true, false, if◌then◌else◌, List, [], ◌∷◌, Option, Some, None, refl, ap, sym, subst, ◌∙◌, ◌⊎◌, inl, inr, arith}
 use Rattle.std.specs.List.{AllByRecursion}
 use Rattle.std.specs.Option.{option_map}
 use Rattle.session_words.specs.declared.cause.EndCause.{EndCause}
@@ -7,17 +7,15 @@ use Rattle.session_words.specs.declared.cause.EndCause.TheVariants as cause
 use Rattle.session_words.specs.declared.plan.CarPlan.{CarPlan}
 use Rattle.session_words.specs.declared.word.Reply.{Reply}
 use Rattle.session_words.specs.Plans.{IsCarPlan}
-use Rattle.session_timers.specs.Due.{never}
 use Rattle.post_spec.specs.Codecs as post
 use Rattle.post_spec.specs.Steps.{Event, Bytes, Clock}
 use Rattle.station_spec.specs.States.{State}
 use Rattle.car_rules.specs.declared.stage.CarPhase.{CarPhase}
 use Rattle.car_rules.specs.declared.stage.CarPhase.TheVariants as phase
 use Rattle.car_rules.specs.declared.stage.CarStage.{CarStage}
-use Rattle.car_rules.specs.Deadlines.{due_at, step_due, hit}
+use Rattle.car_rules.specs.Deadlines.{step_due, hit}
 use Rattle.car_rules.specs.Moves.{is_again, stage_behind}
 use Rattle.car_rules.specs.Replies.{reply_cause}
-use Rattle.car_rules.specs.Stages.{first_stage}
 use Rattle.car_spec.specs.Codecs as car
 use Rattle.car_spec.specs.Steps as car_steps_of
 use Rattle.car_spec.specs.States as car_states
@@ -26,11 +24,10 @@ use Rattle.car_spec.specs.Judging as car_judging
 use Rattle.car_spec.specs.Acting as car_acting
 use Rattle.car_spec.specs.Hearing as car_hearing
 use Rattle.car_spec.specs.Next as car_next
-use Rattle.pipe_spec.specs.Histories.{Happening, CarComes, ChargerTells, StationHears, CarHears, TimePasses, StationDoes, CarReads, CarDoes, CarGoes, NumberIsDrawn, moment, joined, ported, car_plan, car_cause, car_steps, to_station, to_car}
+use Rattle.pipe_spec.specs.Histories.{Happening, CarComes, ChargerTells, StationHears, CarHears, TimePasses, StationDoes, CarReads, CarDoes, CarGoes, NumberIsDrawn, moment, joined, ported, car_cause, car_steps, to_station, to_car}
 use Rattle.pipe_spec.specs.Turns.{Station, station_state, car_state, CarMayReadBy, CarMayDoBy}
 use Rattle.pipe_spec.specs.Runs.{IsRun, IsWithin}
 use Rattle.pipe_laws.specs.OneMessage.{IsShort}
-use Rattle.pipe_laws.specs.PipePasts.{IsFirst}
 use Rattle.pair_words.specs.Laws.{is_repeated}
 use Rattle.pair_words.specs.Meeting.{ArePaired}
 use Rattle.matched_pairs.specs.Moves.{IsPair}
@@ -43,7 +40,7 @@ use Rattle.matched_pairs.proofs.CarPhases.{same_session}
 use Rattle.matched_pairs.proofs.CarMoves.{reads_live}
 use Rattle.matched_pairs.proofs.CarsDo.{cars_act}
 use Rattle.matched_pairs.proofs.Clocks.{same_car_clock}
-use Rattle.matched_pairs.proofs.Passing.{IsResting, IsPassing, Rests, Closes}
+use Rattle.matched_pairs.proofs.Passing.{IsPassing, Rests, Closes}
 use Rattle.matched_pairs.proofs.Held.{Holds, Known, not_ended, car_heard, car_lives}
 use Rattle.matched_pairs.proofs.Paces.{front, Seen, seen, known, passing_at, holds_in}
 use Rattle.matched_pairs.proofs.Deadlines.{IsAhead, hits_later, due_ahead, kept_in}

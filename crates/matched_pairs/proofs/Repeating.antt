@@ -1,13 +1,11 @@
 -- What comes to a car in each phase, and that no reply waits in a step that is asked for again.
-use Rattle.std.proofs.Common.{◌≡◌, ℕ, Bool, true, false, List, [], ◌++◌, Option, Some, None, refl, ap, sym, subst, ◌∙◌, inl, inr}
-use Rattle.charge_world.specs.declared.offer.Dialect.{Dialect}
+use Rattle.std.proofs.Common.{◌≡◌, ℕ, Bool, true, false, List, [], Option, Some, None, refl, ap, sym, subst, ◌∙◌, inl, inr}
 use Rattle.charge_world.specs.declared.ports.Order.{Order}
 use Rattle.session_words.specs.declared.cause.EndCause.{EndCause}
 use Rattle.session_words.specs.declared.cause.EndCause.TheVariants as cause
 use Rattle.session_words.specs.declared.plan.CarPlan.{CarPlan}
 use Rattle.session_words.specs.declared.plan.PostPlan.{PostPlan}
 use Rattle.session_words.specs.declared.word.Reply.{Reply}
-use Rattle.v2gtp_frames.specs.Frames.{frame}
 use Rattle.session_rules.specs.declared.stage.Stage.{Stage}
 use Rattle.session_rules.specs.Stages.{is_waiting}
 use Rattle.post_spec.specs.Codecs as post
@@ -23,7 +21,7 @@ use Rattle.car_spec.specs.States as car_states
 use Rattle.car_spec.specs.Judging.{dialect_of}
 use Rattle.car_spec.specs.Next.{MayAct, MayRead}
 use Rattle.pipe_spec.specs.Histories.{token}
-use Rattle.pair_words.specs.Exchanges.{Both, judged, behind}
+use Rattle.pair_words.specs.Exchanges.{Both, behind}
 use Rattle.pair_words.specs.Meeting.{Meets}
 use Rattle.pair_words.specs.Laws.{both, end_of, has_ended, IsAnswered, is_repeated}
 use Rattle.pair_words.proofs.Exchanges.{exchanges_go_well}
@@ -31,8 +29,8 @@ use Rattle.pair_words.proofs.Sessions.{they_meet}
 use Rattle.pair_deeds.specs.Posts.{IsStill}
 use Rattle.pair_deeds.specs.Cars as cars
 use Rattle.pair_deeds.proofs.Cars.{cars_read_words}
-use Rattle.matched_pairs.specs.Ends.{Listens, IsToEnd, IsGone, GoesOnBy, IsToSay, Awaits, IsToFinish}
-use Rattle.matched_pairs.specs.Phases.{Comes, NothingComes, Begins, IsToOffer, Offered, Offers, Responded, exchange, Talks, IsToAsk, Rests, Asks, IsToReply, Closes, Replies, Ends, IsToStop, Stopped, Words, NoneYet, Read, TalksBy, IsIn}
+use Rattle.matched_pairs.specs.Ends.{Listens, IsGone, GoesOnBy, Awaits, IsToFinish}
+use Rattle.matched_pairs.specs.Phases.{Comes, Begins, IsToOffer, Offered, Offers, Responded, exchange, Talks, IsToAsk, Rests, Asks, IsToReply, Closes, Replies, Ends, IsToStop, Stopped, Words, NoneYet, Read, TalksBy, IsIn}
 use Rattle.matched_pairs.specs.Moves.{IsPair}
 use Rattle.matched_pairs.proofs.Messages.{Front, OnItsWay, Whole, front, empty_waits}
 use Rattle.matched_pairs.proofs.PostPhases.{stays_busy}

@@ -24,15 +24,14 @@ use Rattle.car_spec.specs.States as car_states
 use Rattle.car_spec.specs.Deciding as car_deciding
 use Rattle.car_spec.specs.Judging as car_judging
 use Rattle.car_spec.specs.Next as car_next
-use Rattle.pipe_spec.specs.Histories.{Happening, CarComes, ChargerTells, StationHears, CarHears, TimePasses, StationDoes, CarReads, CarDoes, CarGoes, NumberIsDrawn, moment, joined, token, car_plan, station_cause, station_has_ended, car_cause, station_says, car_steps, to_station, to_car}
+use Rattle.pipe_spec.specs.Histories.{Happening, CarComes, ChargerTells, StationHears, CarHears, TimePasses, StationDoes, CarReads, CarDoes, CarGoes, NumberIsDrawn, moment, joined, token, station_cause, station_has_ended, car_cause, station_says, car_steps, to_station, to_car}
 use Rattle.pipe_spec.specs.Turns.{Station, station_state, car_state, CarMayReadBy, CarMayDoBy, BothRest, MayTurn}
 use Rattle.pipe_spec.specs.Runs.{IsRun, IsWithin}
 use Rattle.pipe_laws.specs.OneMessage.{IsShort}
-use Rattle.pipe_laws.specs.PipePasts.{IsFirst}
 use Rattle.pipe_laws.proofs.Runs as runs
 use Rattle.pipe_laws.proofs.Runs.{piece_by, GoneBy}
 use Rattle.pipe_facts.specs.InTime.{is_told}
-use Rattle.pair_words.specs.Exchanges.{Both, Outside, asked, judged, reply, behind}
+use Rattle.pair_words.specs.Exchanges.{Both, Outside, asked, judged, reply}
 use Rattle.pair_words.specs.Laws.{both, is_repeated}
 use Rattle.pair_words.specs.Meeting.{Meets}
 use Rattle.pair_words.proofs.Sessions.{they_meet}

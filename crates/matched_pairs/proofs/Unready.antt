@@ -1,5 +1,5 @@
 -- A step that has to be asked for again wasn't done as the post read the request for it.
-use Rattle.std.proofs.Common.{◌≡◌, ℕ, ◌+◌, ◌<◌, ◌≤◌, Bool, true, false, ◌&&◌, if◌then◌else◌, List, [], Option, Some, None, is_some, unwrap_or, refl, ap, sym, subst, ◌∙◌, arith}
+use Rattle.std.proofs.Common.{◌≡◌, ℕ, ◌≤◌, Bool, true, false, ◌&&◌, if◌then◌else◌, List, [], Option, Some, None, is_some, unwrap_or, refl, ap, sym, subst, ◌∙◌, arith}
 use Rattle.std.specs.Prelude.{MatchBool}
 use Rattle.session_words.specs.declared.facts.Facts.{Facts}
 use Rattle.session_words.specs.declared.limits.CarLimits.{CarLimits}
@@ -8,7 +8,6 @@ use Rattle.session_words.specs.declared.plan.CarPlan.{CarPlan}
 use Rattle.session_words.specs.declared.plan.PostPlan.{PostPlan}
 use Rattle.session_words.specs.declared.word.Ask.{Ask}
 use Rattle.session_words.specs.declared.word.Ask.TheVariants as ask
-use Rattle.session_words.specs.declared.word.Request.{Request}
 use Rattle.session_rules.specs.declared.stage.Stage.{Stage}
 use Rattle.session_rules.specs.Asks.{ask_of, asks, shows_watts}
 use Rattle.session_rules.specs.Verdict.{verdict, is_accepted}
@@ -26,7 +25,6 @@ use Rattle.car_rules.specs.declared.stage.CarStage.{CarStage}
 use Rattle.car_rules.specs.Moves.{cycles_behind}
 use Rattle.car_rules.specs.Replies.{is_ending}
 use Rattle.car_rules.specs.Requests as requests
-use Rattle.car_spec.specs.Codecs as car
 use Rattle.car_spec.specs.Spelled.{dropped_limits, dropped_ask}
 use Rattle.pipe_spec.specs.Histories.{Happening, moment, station_has_ended}
 use Rattle.pipe_spec.specs.Turns.{Station, station_state}
