@@ -29,7 +29,7 @@ use Rattle.matched_pairs.proofs.CarReads.{cars_read}
 use Rattle.matched_pairs.proofs.PostsHear.{posts_hear}
 use Rattle.matched_pairs.proofs.CarsHear.{cars_hear}
 use Rattle.matched_pairs.specs.Repeats.{repeats_read, repeats_of}
-use Rattle.matched_pairs.proofs.Repeats.{repeated}
+use Rattle.matched_pairs.proofs.RepeatsRead.{repeated}
 use Rattle.matched_pairs.specs.Courses.{IsAt, AllGoUndisturbed, GoesUndisturbed, count, GoesWell, SessionsGoWell}
 
 pub true_false : (b : Bool) → b ≡ true → b ≡ false → ⊥

@@ -56,6 +56,7 @@ kept_so post_plan plan b s session shown request there arrived stage u short fac
       session = session;
       session_is = there;
       stage_is = stage;
+      judged_is = refl;
       answered = answered;
       kept = h;
       unread_is = h.unread ∙ nothing_left request session.unread u short;

@@ -12,7 +12,7 @@ pub mod PostsHear
 pub mod CarsHear
 pub mod Requested
 pub mod Keeps
-pub mod Repeats
+pub mod RepeatsRead
 pub mod Courses
 pub mod Stopping
 pub mod Ends
@@ -53,6 +53,13 @@ pub mod Cars
 pub mod Paces
 pub mod Deadlines
 pub mod Told
+pub mod Pending
+pub mod Repeating
+pub mod Unready
+pub mod Spoken
+pub mod Repeats
+pub mod Early
+pub mod Quick
 pub mod Said
 pub mod Pieces
 pub mod Tells

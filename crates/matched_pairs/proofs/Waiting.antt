@@ -26,18 +26,18 @@ either_less : (b : Bool) (x y : Agenda) → Replyless x → Replyless y → Repl
 either_less true x y f g = f
 either_less false x y f g = g
 
-repeats_less : (now : Standing) → Replyless (repeating now)
+pub repeats_less : (now : Standing) → Replyless (repeating now)
 repeats_less standing.MustOpen = refl
 repeats_less standing.Opened = refl
 repeats_less standing.Closing = refl
 repeats_less standing.Closed = refl
 repeats_less standing.Opening = refl
 
-times_less : (o : Option Session) (now : ℕ) (live : Bool) → Replyless (timing o now live)
+pub times_less : (o : Option Session) (now : ℕ) (live : Bool) → Replyless (timing o now live)
 times_less None now live = refl
 times_less (Some x) now live = either_less (is_reached (due x) now) (ending_by (cause_of (timeout_of x.stage.row)) live) nothing refl refl
 
-ending_less : (o : Option Session) (why : EndCause) (live : Bool) → Replyless (ending_in o why live)
+pub ending_less : (o : Option Session) (why : EndCause) (live : Bool) → Replyless (ending_in o why live)
 ending_less None why live = refl
 ending_less (Some x) why live = refl
 
@@ -70,7 +70,7 @@ front_less (Err fault) waits live = refl
 front_less (Ok None) waits live = refl
 front_less (Ok (Some n)) waits live = either_less waits (ending_by cause.Impatient live) nothing refl refl
 
-fronts_less : (o : Option Session) (live : Bool) → Replyless (fronting o live)
+pub fronts_less : (o : Option Session) (live : Bool) → Replyless (fronting o live)
 fronts_less None live = refl
 fronts_less (Some x) live = front_less (whole_at x.unread) (is_waiting x.stage.row) live
 

@@ -6,6 +6,7 @@ use Rattle.session_words.specs.declared.plan.CarPlan.{CarPlan}
 use Rattle.session_words.specs.declared.plan.PostPlan.{PostPlan}
 use Rattle.session_rules.specs.Stages.{first_stage}
 use Rattle.post_spec.specs.Codecs as post
+use Rattle.post_spec.specs.Codecs.{Asked}
 use Rattle.post_spec.specs.Steps.{Act, Give, Send, Answer, End, Reading}
 use Rattle.station_spec.specs.States.{Spoken, Session, State, Wording}
 use Rattle.station_spec.specs.Deciding.{decided}
@@ -15,7 +16,7 @@ use Rattle.station_spec.specs.Sharing.{Shows}
 use Rattle.car_spec.specs.Codecs as car
 use Rattle.car_spec.specs.States as car_states
 use Rattle.pipe_spec.specs.Histories.{token}
-use Rattle.pair_words.specs.Exchanges.{Both, Outside}
+use Rattle.pair_words.specs.Exchanges.{Both, Outside, asked}
 use Rattle.pair_words.specs.Laws.{both, has_ended, IsAnswered}
 use Rattle.pair_readings.specs.Readings.{HasAnswered}
 use Rattle.matched_pairs.specs.Acts.{IsOfBeginning}
@@ -65,6 +66,7 @@ pub record HasKept (post_plan : PostPlan) (plan : CarPlan) (b : Both) (s : State
   pub session : Session
   pub session_is : s.session ≡ Some session
   pub stage_is : session.stage ≡ b.post
+  pub judged_is : reading.judged ≡ Asked (asked plan b.car)
   pub answered : IsAnswered post_plan plan b (exchange s.facts s.facts reading.shown)
   pub kept : HasAnswered post_plan plan b (exchange s.facts s.facts reading.shown) (decided post_plan s) session (filled post_plan (Some reading) s)
   pub unread_is : kept.new.unread ≡ []

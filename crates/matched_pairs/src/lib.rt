@@ -13,14 +13,15 @@ mod hearing;
 mod timing;
 
 pub use acting::{cars_act, cars_go_on, cars_read, posts_act, posts_do, posts_go_on, posts_keep};
-pub use ending::pipe_runs_are_well;
+pub use ending::{hearings_are_few, pipe_runs_are_well};
 pub use going::{
     causes_are_stops, contactors_are_opened, contactors_follow, sessions_end_by_stop,
     sessions_go_well, sessions_stop,
 };
 pub use hearing::{cars_hear, posts_hear};
 pub use timing::{
-    clocks_are_right, closes_are_heard, deadlines_are_kept, hearings_are_few, moments_are_bounded,
-    powers_are_within, sessions_are_undisturbed, sessions_keep_pace, steady_sessions_end,
-    time_passes_in_pauses, timely_sessions_are_undisturbed, timely_sessions_end, words_are_told,
+    clocks_are_right, closes_are_heard, deadlines_are_kept, moments_are_bounded, powers_are_within,
+    quick_steps_are_kept, repeats_are_of_now, sessions_are_undisturbed, sessions_keep_pace,
+    steady_sessions_end, time_passes_in_pauses, timely_sessions_are_undisturbed,
+    timely_sessions_end, words_are_told,
 };

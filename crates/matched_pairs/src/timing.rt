@@ -12,18 +12,20 @@
 //! `sessions_keep_pace` (the moment from which the deadline of the post counts is past by 1,010 ms at most, a request that has no reply yet was said 60 ms
 //! before at most, and SessionSetup is replied to at 0) and `deadlines_are_kept` (so neither the deadlines of the post are reached nor those of the car for its
 //! connection and for a reply); `steady_sessions_end` (a session that is over then, but for the turns of a plan, has ended by SessionStop at both ends);
-//! `words_are_told` (a post reads a word only behind a turn that brought bytes to an end, so that nothing of its charger was due); `hearings_are_few` (where
-//! each message has 1,032 bytes at most, and the exchanges are as few as those of a session that ends well, each end hears fewer than 1,000,000,000 times).
+//! `words_are_told` (a post reads a word only behind a turn that brought bytes to an end, so that nothing of its charger was due); `repeats_are_of_now` (a car
+//! that reads a reply by which it asks the same once more reads it at the moment at which the post judged the request, and the step wasn't done then);
+//! `quick_steps_are_kept` (so authorization, the parameters and the cable check are done early: none of their deadlines is reached).
 
 ghost use Rattle.car_spec.specs.Codecs as car;
 ghost use Rattle.matched_pairs.specs.Bounds.{MomentsAreBounded};
 ghost use Rattle.matched_pairs.specs.Clocks.{ClocksAreRight};
 ghost use Rattle.matched_pairs.specs.Closing.{ClosesAreHeard};
-ghost use Rattle.matched_pairs.specs.Few.{HearingsAreFew};
 ghost use Rattle.matched_pairs.specs.Limits.{SessionsAreUndisturbed};
 ghost use Rattle.matched_pairs.specs.Paces.{SessionsKeepPace};
 ghost use Rattle.matched_pairs.specs.Pauses.{TimePassesInPauses};
+ghost use Rattle.matched_pairs.specs.Pending.{RepeatsAreOfNow};
 ghost use Rattle.matched_pairs.specs.Power.{PowersAreWithin};
+ghost use Rattle.matched_pairs.specs.Quick.{QuickStepsAreKept};
 ghost use Rattle.matched_pairs.specs.Steps.{DeadlinesAreKept, SteadySessionsEnd};
 ghost use Rattle.matched_pairs.specs.Timely.{TimelySessionsAreUndisturbed, TimelySessionsEnd};
 ghost use Rattle.matched_pairs.specs.Told.{WordsAreTold};
@@ -92,7 +94,12 @@ pub fn words_are_told<C: Coded, D: CarCoded>()
     ensures { WordsAreTold (post.codecs C.negotiates C.reads C.encodes) (car.codecs D.offers D.responds D.reads D.encodes) }
 {}
 
-/// A session of few exchanges, with messages that are short, takes few hearings of each end.
-pub fn hearings_are_few<C: Coded, D: CarCoded>()
-    ensures { HearingsAreFew (post.codecs C.negotiates C.reads C.encodes) (car.codecs D.offers D.responds D.reads D.encodes) }
+/// A request is asked again for what the post knew of its step at the moment at which the car reads the reply.
+pub fn repeats_are_of_now<C: Coded, D: CarCoded>()
+    ensures { RepeatsAreOfNow (post.codecs C.negotiates C.reads C.encodes) (car.codecs D.offers D.responds D.reads D.encodes) }
+{}
+
+/// The deadlines of authorization, of the parameters and of the cable check aren't reached.
+pub fn quick_steps_are_kept<C: Coded, D: CarCoded>()
+    ensures { QuickStepsAreKept (post.codecs C.negotiates C.reads C.encodes) (car.codecs D.offers D.responds D.reads D.encodes) }
 {}

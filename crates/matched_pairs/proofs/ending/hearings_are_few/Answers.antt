@@ -1,5 +1,5 @@
 use Rattle.matched_pairs.proofs.Few as few
-use Rattle.matched_pairs.proofs.timing.hearings_are_few.Goals as goal
+use Rattle.matched_pairs.proofs.ending.hearings_are_few.Goals as goal
 
 pub returns : goal.returns
 returns g c = few.hearings_are_few _ _
