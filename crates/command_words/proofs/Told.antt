@@ -1,10 +1,11 @@
 -- What is asked for by the words of a command.
-use Rattle.std.proofs.Common.{◌≡◌, ◌≢◌, ◌∙◌, ◌<◌, ◌≤◌, ◌^◌, ◌-◌, ◌&&◌, nat_lt, ℕ, Bool, cond, true, false, List, [], ◌∷◌, length, Option, Some, None, codes, decimal, refl, sym, ap, ap₂, subst, arith, Box, box_value}
+use Rattle.std.proofs.Common.{◌≡◌, ◌≢◌, ◌∙◌, ◌<◌, ◌≤◌, ◌^◌, ◌-◌, ◌+◌, ◌&&◌, nat_le, nat_lt, ℕ, Bool, cond, true, false, List, [], ◌∷◌, length, Option, Some, None, codes, decimal, refl, sym, ap, ap₂, subst, arith, Box, box_value}
 use Rattle.std.specs.List.{AllByRecursion, list_all}
 use Rattle.std.specs.Prelude.{IfOk, IfErr, IsSomeAnd, option_and_then, option_map}
 use Rattle.std.specs.Option.{ok_or}
 use Rattle.std.specs.Str.Parse.{digits_value}
 use Rattle.std.specs.Str.{bytes_eq}
+use Rattle.std.proofs.lemmas.Bool.{le-leb, leb-true}
 use Rattle.std.proofs.lemmas.Bool.Decides.{Decides-ltb}
 use Rattle.std.proofs.lemmas.Slice.Eq.{bytes_eq-Decides}
 use Rattle.std.proofs.lemmas.Fmt.{decimal_is_IsNumeral}
@@ -15,8 +16,8 @@ use Rattle.clap.specs.declared.parser.matches.SubCommand.{SubCommand}
 use Rattle.clap.specs.declared.parser.matches.ArgMatches.TheViews.{out-SubCommand}
 use Rattle.message_dialects.specs.declared.dialect.MessageDialect.{MessageDialect}
 use Rattle.message_dialects.specs.declared.dialect.MessageDialect.TheVariants.{App, Iso, Din}
-use Rattle.command_words.specs.Command.{Asked, Asks, HasWordsFault, IsCommand, IsNoCommand, asked_of, audit, basic, car, decode, dialect_named, dialect_word, day, encode, is_plain, IsWithin, migrate, offer, pick, replay, schedule, seeds, services, shorts, station, talk, words_of}
-use Rattle.command_words.specs.Grammar.{Form, IsMatched, IsTaken, IsUnmatched, count_of, forms, given_rows, is_number, named, number_named, on_dialect, told, told_of, with_number, with_one, with_seed, with_two}
+use Rattle.command_words.specs.Command.{Asked, Asks, HasWordsFault, IsCommand, IsNoCommand, asked_of, audit, basic, car, decode, dialect_named, dialect_word, day, encode, generate, is_plain, IsWithin, migrate, most_sessions, offer, pick, replay, schedule, seeds, services, shorts, station, talk, words_of}
+use Rattle.command_words.specs.Grammar.{Form, IsMatched, IsTaken, IsUnmatched, count_of, forms, given_rows, is_number, named, number_named, on_dialect, told, told_of, with_count, with_number, with_one, with_seed, with_two}
 use Rattle.command_words.specs.declared.reading.Command.{Command}
 use Rattle.command_words.specs.declared.reading.WordsFault.TheVariants.{NoCommand}
 
@@ -53,45 +54,57 @@ shorts_fit = omega arith
 pub seeds_fit : Fits seeds
 seeds_fit = omega arith
 
+pub counts_fit : Fits (most_sessions + 1)
+counts_fit = omega arith
+
 value_is : (bound n : ℕ) → Fits bound → n < bound → digits_value 10 (decimal n) ≡ n
 value_is bound n fits less = (decimal_is_IsNumeral n (omega (arith, fits, less))).1
 
--- the text of a number below the bound is that number
-pub number_is : (bound n : ℕ) → Fits bound → n < bound → number_named bound (decimal n) ≡ Some n
+-- the text of a number within the bounds is that number
+pub number_is : (least bound n : ℕ) → Fits bound → least ≤ n → n < bound → number_named least bound (decimal n) ≡ Some n
 unfolding number_named
-number_is bound n fits less =
+number_is least bound n fits most less =
     let value = value_is bound n fits less in
-    subst (λ (v : ℕ). cond (is_number bound (decimal n) v) (Some v) None ≡ Some n) (sym value)
-    (cond_true (is_number bound (decimal n) n) (Some n) None
-    (both_true _ _ ((bytes_eq-Decides (decimal n) (decimal n)).1 refl) ((Decides-ltb n bound).1 less)))
+    subst (λ (v : ℕ). cond (is_number least bound (decimal n) v) (Some v) None ≡ Some n) (sym value)
+    (cond_true (is_number least bound (decimal n) n) (Some n) None
+    (both_true _ _ (both_true _ _ ((bytes_eq-Decides (decimal n) (decimal n)).1 refl) (le-leb least n most)) ((Decides-ltb n bound).1 less)))
+
+-- what a test of a number says
+pub record IsSpelledNumber (least bound : ℕ) (word : Text) (n : ℕ) : Type 0 where
+  pub spelled : word ≡ decimal n
+  pub from : least ≤ n
+  pub below : n < bound
+
+tested : (least bound : ℕ) (word : Text) (n : ℕ) → is_number least bound word n ≡ true → IsSpelledNumber least bound word n
+tested least bound word n is =
+    let parts = both_parts (bytes_eq (decimal n) word && nat_le least n) (nat_lt n bound) is in
+    let first = both_parts (bytes_eq (decimal n) word) (nat_le least n) parts.0 in
+    record { spelled = sym ((bytes_eq-Decides (decimal n) word).0 first.0); from = leb-true least n first.1; below = (Decides-ltb n bound).0 parts.1 }
 
 -- another word is none
-pub number_none : (bound : ℕ) (word : Text) → ((n : ℕ) → n < bound → word ≢ decimal n) → number_named bound word ≡ None
+pub number_none : (least bound : ℕ) (word : Text) → ((n : ℕ) → least ≤ n → n < bound → word ≢ decimal n) → number_named least bound word ≡ None
 unfolding number_named
-number_none bound word none =
+number_none least bound word none =
     let n = digits_value 10 word in
-    cond_false (is_number bound word n) (Some n) None (λ is.
-    let parts = both_parts (bytes_eq (decimal n) word) (nat_lt n bound) is in
-    none n ((Decides-ltb n bound).0 parts.1) (sym ((bytes_eq-Decides (decimal n) word).0 parts.0)))
+    cond_false (is_number least bound word n) (Some n) None (λ is.
+    let test = tested least bound word n is in
+    none n test.from test.below test.spelled)
 
 -- a number that was read of the word, and none
-pub number_read : (bound n : ℕ) (word : Text) → 0 < bound → Fits bound → n ≤ bound - 1 → word ≡ decimal n → Some n ≡ number_named bound word
-number_read bound n word some fits most spelled = sym (ap (number_named bound) spelled ∙ number_is bound n fits (omega (arith, some, most)))
+pub number_read : (least bound n : ℕ) (word : Text) → 0 < bound → Fits bound → least ≤ n → n ≤ bound - 1 → word ≡ decimal n → Some n ≡ number_named least bound word
+number_read least bound n word some fits from most spelled =
+    sym (ap (number_named least bound) spelled ∙ number_is least bound n fits from (omega (arith, some, most)))
 
-pub number_unread : (bound : ℕ) (word : Text) → 0 < bound → ((n : ℕ) → (0 ≤ n) × (n ≤ bound - 1) → word ≢ decimal n) → None ≡ number_named bound word
-number_unread bound word some none = sym (number_none bound word (λ n less. none n (omega arith, omega (arith, some, less))))
+pub number_unread : (least bound : ℕ) (word : Text) → 0 < bound → ((n : ℕ) → (least ≤ n) × (n ≤ bound - 1) → word ≢ decimal n) → None ≡ number_named least bound word
+number_unread least bound word some none = sym (number_none least bound word (λ n from less. none n (from, omega (arith, some, less))))
 
--- what is found is spelled so, and is below the bound
-pub number_of : (bound : ℕ) (word : Text) (n : ℕ) → number_named bound word ≡ Some n → (word ≡ decimal n) × (n < bound)
+-- what is found is spelled so, and is within the bounds
+pub number_of : (least bound : ℕ) (word : Text) (n : ℕ) → number_named least bound word ≡ Some n → IsSpelledNumber least bound word n
 unfolding number_named
-number_of bound word n = go (is_number bound word (digits_value 10 word)) refl
+number_of least bound word n = go (is_number least bound word (digits_value 10 word)) refl
   where
-    go : (b : Bool) → is_number bound word (digits_value 10 word) ≡ b → cond b (Some (digits_value 10 word)) None ≡ Some n → (word ≡ decimal n) × (n < bound)
-    go true is e =
-        let parts = both_parts (bytes_eq (decimal (digits_value 10 word)) word) (nat_lt (digits_value 10 word) bound) is in
-        let same : digits_value 10 word ≡ n = same_some (digits_value 10 word) n e in
-        let spelled : word ≡ decimal n = sym ((bytes_eq-Decides (decimal (digits_value 10 word)) word).0 parts.0) ∙ ap decimal same in
-        (spelled, subst (λ (v : ℕ). v < bound) same ((Decides-ltb (digits_value 10 word) bound).0 parts.1))
+    go : (b : Bool) → is_number least bound word (digits_value 10 word) ≡ b → cond b (Some (digits_value 10 word)) None ≡ Some n → IsSpelledNumber least bound word n
+    go true is e = subst (IsSpelledNumber least bound word) (same_some (digits_value 10 word) n e) (tested least bound word (digits_value 10 word) is)
     go false is e = let bad : None ≡ Some n = e in absurd cc
 
 -- ---- the words of what is asked for are read as that
@@ -113,7 +126,15 @@ read (talk site vehicle seed) within = record {
   values = site ∷ vehicle ∷ decimal seed ∷ [];
   words_are = refl;
   taken = refl;
-  told_is = ap (λ (n : Option ℕ). option_map (λ (found : Text × Text × ℕ). talk found.0 found.1 found.2) (option_map (λ (number : ℕ). (site, vehicle, number)) n)) (number_is seeds seed seeds_fit within);
+  told_is = ap (λ (n : Option ℕ). option_map (λ (found : Text × Text × ℕ). talk found.0 found.1 found.2) (option_map (λ (number : ℕ). (site, vehicle, number)) n)) (number_is 0 seeds seed seeds_fit (omega arith) within);
+}
+read (generate seed count) within = record {
+  name = codes "generate";
+  values = decimal seed ∷ decimal count ∷ [];
+  words_are = refl;
+  taken = refl;
+  told_is = ap₂ (λ (m n : Option ℕ). option_map (λ (pair : ℕ × ℕ). generate pair.0 pair.1) (option_and_then (λ (seed : ℕ). option_map (λ (count : ℕ). (seed, count)) n) m))
+      (number_is 0 seeds seed seeds_fit (omega arith) within.0) (number_is 1 (most_sessions + 1) count counts_fit within.1 (omega (arith, within.2)));
 }
 read (decode App hex) within = record { name = codes "decode"; values = codes "app" ∷ hex ∷ []; words_are = refl; taken = refl; told_is = refl }
 read (decode Iso hex) within = record { name = codes "decode"; values = codes "iso" ∷ hex ∷ []; words_are = refl; taken = refl; told_is = refl }
@@ -128,7 +149,7 @@ read (offer calendar moment) within = record {
   values = calendar ∷ decimal moment ∷ [];
   words_are = refl;
   taken = refl;
-  told_is = ap (λ (n : Option ℕ). option_map (λ (pair : Text × ℕ). offer pair.0 pair.1) (option_map (λ (number : ℕ). (calendar, number)) n)) (number_is day moment day_fits within);
+  told_is = ap (λ (n : Option ℕ). option_map (λ (pair : Text × ℕ). offer pair.0 pair.1) (option_map (λ (number : ℕ). (calendar, number)) n)) (number_is 0 day moment day_fits (omega arith) within);
 }
 read (schedule need hex) within = record { name = codes "schedule"; values = need ∷ hex ∷ []; words_are = refl; taken = refl; told_is = refl }
 read (services catalogue id) within = record {
@@ -136,7 +157,7 @@ read (services catalogue id) within = record {
   values = catalogue ∷ decimal id ∷ [];
   words_are = refl;
   taken = refl;
-  told_is = ap (λ (n : Option ℕ). option_map (λ (pair : Text × ℕ). services pair.0 pair.1) (option_map (λ (number : ℕ). (catalogue, number)) n)) (number_is shorts id shorts_fit within);
+  told_is = ap (λ (n : Option ℕ). option_map (λ (pair : Text × ℕ). services pair.0 pair.1) (option_map (λ (number : ℕ). (catalogue, number)) n)) (number_is 0 shorts id shorts_fit (omega arith) within);
 }
 read (pick want hex) within = record { name = codes "pick"; values = want ∷ hex ∷ []; words_are = refl; taken = refl; told_is = refl }
 
@@ -179,28 +200,46 @@ makes_two name make is (a ∷ b ∷ c ∷ rest) asked many told = absurd (omega 
 makes_number : (name : Text) (bound : ℕ) (make : Text → ℕ → Asked) → ((a : Text) (n : ℕ) → n < bound → Says (name ∷ a ∷ decimal n ∷ []) (make a n)) → MakesWords (with_number name bound make)
 makes_number name bound make is [] asked many says = absurd (omega (arith, many))
 makes_number name bound make is (a ∷ []) asked many says = absurd (omega (arith, many))
-makes_number name bound make is (a ∷ b ∷ []) asked many says = go (number_named bound b) refl says
+makes_number name bound make is (a ∷ b ∷ []) asked many says = go (number_named 0 bound b) refl says
   where
-    go : (found : Option ℕ) → number_named bound b ≡ found → option_map (λ (pair : Text × ℕ). make pair.0 pair.1) (option_map (λ (number : ℕ). (a, number)) found) ≡ Some asked → Says (name ∷ a ∷ b ∷ []) asked
+    go : (found : Option ℕ) → number_named 0 bound b ≡ found → option_map (λ (pair : Text × ℕ). make pair.0 pair.1) (option_map (λ (number : ℕ). (a, number)) found) ≡ Some asked → Says (name ∷ a ∷ b ∷ []) asked
     go None is_none e = let bad : None ≡ Some asked = e in absurd cc
     go (Some n) found e =
-        let number = number_of bound b n found in
-        said_by _ (make a n) asked e (subst (λ (w : Text). Says (name ∷ a ∷ w ∷ []) (make a n)) (sym number.0) (is a n number.1))
+        let number = number_of 0 bound b n found in
+        said_by _ (make a n) asked e (subst (λ (w : Text). Says (name ∷ a ∷ w ∷ []) (make a n)) (sym number.spelled) (is a n number.below))
 makes_number name bound make is (a ∷ b ∷ c ∷ rest) asked many says = absurd (omega (arith, many))
 
 makes_seed : (name : Text) (make : Text → Text → ℕ → Asked) → ((a b : Text) (n : ℕ) → n < seeds → Says (name ∷ a ∷ b ∷ decimal n ∷ []) (make a b n)) → MakesWords (with_seed name make)
 makes_seed name make is [] asked many says = absurd (omega (arith, many))
 makes_seed name make is (a ∷ []) asked many says = absurd (omega (arith, many))
 makes_seed name make is (a ∷ b ∷ []) asked many says = absurd (omega (arith, many))
-makes_seed name make is (a ∷ b ∷ c ∷ []) asked many says = go (number_named seeds c) refl says
+makes_seed name make is (a ∷ b ∷ c ∷ []) asked many says = go (number_named 0 seeds c) refl says
   where
-    go : (found : Option ℕ) → number_named seeds c ≡ found → option_map (λ (found : Text × Text × ℕ). make found.0 found.1 found.2) (option_map (λ (number : ℕ). (a, b, number)) found) ≡ Some asked
+    go : (found : Option ℕ) → number_named 0 seeds c ≡ found → option_map (λ (found : Text × Text × ℕ). make found.0 found.1 found.2) (option_map (λ (number : ℕ). (a, b, number)) found) ≡ Some asked
         → Says (name ∷ a ∷ b ∷ c ∷ []) asked
     go None is_none e = let bad : None ≡ Some asked = e in absurd cc
     go (Some n) found e =
-        let number = number_of seeds c n found in
-        said_by _ (make a b n) asked e (subst (λ (w : Text). Says (name ∷ a ∷ b ∷ w ∷ []) (make a b n)) (sym number.0) (is a b n number.1))
+        let number = number_of 0 seeds c n found in
+        said_by _ (make a b n) asked e (subst (λ (w : Text). Says (name ∷ a ∷ b ∷ w ∷ []) (make a b n)) (sym number.spelled) (is a b n number.below))
 makes_seed name make is (a ∷ b ∷ c ∷ d ∷ rest) asked many says = absurd (omega (arith, many))
+
+makes_count : (name : Text) (make : ℕ → ℕ → Asked)
+    → ((m n : ℕ) → m < seeds → 1 ≤ n → n < most_sessions + 1 → Says (name ∷ decimal m ∷ decimal n ∷ []) (make m n)) → MakesWords (with_count name make)
+makes_count name make is [] asked many says = absurd (omega (arith, many))
+makes_count name make is (a ∷ []) asked many says = absurd (omega (arith, many))
+makes_count name make is (a ∷ b ∷ []) asked many says = go (number_named 0 seeds a) (number_named 1 (most_sessions + 1) b) refl refl says
+  where
+    go : (one other : Option ℕ) → number_named 0 seeds a ≡ one → number_named 1 (most_sessions + 1) b ≡ other
+        → option_map (λ (pair : ℕ × ℕ). make pair.0 pair.1) (option_and_then (λ (seed : ℕ). option_map (λ (count : ℕ). (seed, count)) other) one) ≡ Some asked
+        → Says (name ∷ a ∷ b ∷ []) asked
+    go None other is_none second e = let bad : None ≡ Some asked = e in absurd cc
+    go (Some m) None first is_none e = let bad : None ≡ Some asked = e in absurd cc
+    go (Some m) (Some n) first second e =
+        let seed = number_of 0 seeds a m first in
+        let count = number_of 1 (most_sessions + 1) b n second in
+        said_by _ (make m n) asked e (subst (λ (w : Text). Says (name ∷ w ∷ b ∷ []) (make m n)) (sym seed.spelled)
+        (subst (λ (w : Text). Says (name ∷ decimal m ∷ w ∷ []) (make m n)) (sym count.spelled) (is m n seed.below count.from count.below)))
+makes_count name make is (a ∷ b ∷ c ∷ rest) asked many says = absurd (omega (arith, many))
 
 named_word : (word : Text) (dialect : MessageDialect) → dialect_named word ≡ Some dialect → word ≡ dialect_word dialect
 named_word word dialect h = go (bytes_eq word (dialect_word App)) (bytes_eq word (dialect_word Iso)) (bytes_eq word (dialect_word Din)) refl refl refl h
@@ -239,16 +278,16 @@ all_make = (
         (
           makes_seed _ _ (λ a b n less. (refl, less)),
           (
-            makes_dialect _ _ (λ d b. (refl, tt)),
+            makes_count _ _ (λ m n less from most. (refl, (less, from, omega (arith, most)))),
             (
               makes_dialect _ _ (λ d b. (refl, tt)),
               (
-                makes_one _ _ (λ a. (refl, tt)),
+                makes_dialect _ _ (λ d b. (refl, tt)),
                 (
                   makes_one _ _ (λ a. (refl, tt)),
                   (
-                    makes_number _ _ _ (λ a n less. (refl, less)),
-                    (makes_two _ _ (λ a b. (refl, tt)), (makes_number _ _ _ (λ a n less. (refl, less)), (makes_two _ _ (λ a b. (refl, tt)), tt))),
+                    makes_one _ _ (λ a. (refl, tt)),
+                    (makes_number _ _ _ (λ a n less. (refl, less)), (makes_two _ _ (λ a b. (refl, tt)), (makes_number _ _ _ (λ a n less. (refl, less)), (makes_two _ _ (λ a b. (refl, tt)), tt)))),
                   ),
                 ),
               ),

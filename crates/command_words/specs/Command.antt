@@ -1,11 +1,11 @@
 -- Own: the words of the program's commands. A word that begins with `-` is in none.
-use Rattle.std.specs.Prelude.{◌≡◌, ◌==◌, ◌<◌, ◌^◌, ℕ, Bool, not, true, if◌then◌else◌, List, [], ◌∷◌, Option, Some, None, codes, decimal}
+use Rattle.std.specs.Prelude.{◌≡◌, ◌==◌, ◌<◌, ◌≤◌, ◌^◌, ℕ, Bool, not, true, if◌then◌else◌, List, [], ◌∷◌, Option, Some, None, codes, decimal}
 use Rattle.std.specs.List.{list_all}
 use Rattle.std.specs.Str.{bytes_eq}
 use Rattle.message_dialects.specs.declared.dialect.MessageDialect.{MessageDialect}
 use Rattle.message_dialects.specs.declared.dialect.MessageDialect.TheVariants.{App, Iso, Din}
 use Rattle.command_words.specs.declared.reading.Command.{Command}
-use Rattle.command_words.specs.declared.reading.Command.TheVariants.{Station, Car, Replay, Audit, Talk, Decode, Encode, Basic, Migrate, Offer, Schedule, Services, Pick}
+use Rattle.command_words.specs.declared.reading.Command.TheVariants.{Station, Car, Replay, Audit, Talk, Generate, Decode, Encode, Basic, Migrate, Offer, Schedule, Services, Pick}
 use Rattle.command_words.specs.declared.reading.WordsFault.{WordsFault}
 use Rattle.command_words.specs.declared.reading.WordsFault.TheVariants.{NoCommand, Memory}
 
@@ -30,16 +30,17 @@ dialect_named word =
 
 -- what may be asked for: to serve the posts of the plan in a file; to drive a car by the plan in a file; to run the posts of the plan in a file
 -- over the hearings of the trace in another; to judge the trace in one file for the plan in another; that the station of the plan in one file and the
--- car of the plan in another talk over a pipe in memory, by a seed; the tree text of a payload of a dialect; the payload of a tree text of a dialect;
--- the orders for the script in a file; to carry the trace of an earlier format in a file over; what is offered for the day from a moment on by the calendar
--- in a file; the charging profile for the need in a file within the schedules of a payload; the payload of the reply for a service of the catalogue
--- in a file; and which set of the parameters of a payload is picked by what is wanted
+-- car of the plan in another talk over a pipe in memory, by a seed; that so many sessions follow one another there, by a seed; the tree text of a
+-- payload of a dialect; the payload of a tree text of a dialect; the orders for the script in a file; to carry the trace of an earlier format in a file
+-- over; what is offered for the day from a moment on by the calendar in a file; the charging profile for the need in a file within the schedules of a
+-- payload; the payload of the reply for a service of the catalogue in a file; and which set of the parameters of a payload is picked by what is wanted
 pub data Asked : Type 0 where
   station : (plan : List ℕ) → Asked
   car : (plan : List ℕ) → Asked
   replay : (plan trace : List ℕ) → Asked
   audit : (plan trace : List ℕ) → Asked
   talk : (station_plan car_plan : List ℕ) (seed : ℕ) → Asked
+  generate : (seed count : ℕ) → Asked
   decode : (dialect : MessageDialect) (hex : List ℕ) → Asked
   encode : (dialect : MessageDialect) (text : List ℕ) → Asked
   basic : (script : List ℕ) → Asked
@@ -56,6 +57,7 @@ words_of (car plan) = codes "car" ∷ plan ∷ []
 words_of (replay plan trace) = codes "replay" ∷ plan ∷ trace ∷ []
 words_of (audit plan trace) = codes "audit" ∷ plan ∷ trace ∷ []
 words_of (talk site vehicle seed) = codes "talk" ∷ site ∷ vehicle ∷ decimal seed ∷ []
+words_of (generate seed count) = codes "generate" ∷ decimal seed ∷ decimal count ∷ []
 words_of (decode dialect hex) = codes "decode" ∷ dialect_word dialect ∷ hex ∷ []
 words_of (encode dialect text) = codes "encode" ∷ dialect_word dialect ∷ text ∷ []
 words_of (basic script) = codes "basic" ∷ script ∷ []
@@ -77,9 +79,14 @@ shorts = 65536
 abbrev pub seeds : ℕ
 seeds = 2 ^ 64
 
--- a number is within its bounds: a seed has 64 bits, a moment is a second of a day, an identifier has 16 bits
+-- there are at most so many sessions
+abbrev pub most_sessions : ℕ
+most_sessions = 1000
+
+-- a number is within its bounds: a seed has 64 bits, there are 1 to 1,000 sessions, a moment is a second of a day, an identifier has 16 bits
 abbrev pub IsWithin : Asked → Type 0
 IsWithin (talk site vehicle seed) = seed < seeds
+IsWithin (generate seed count) = (seed < seeds) × (1 ≤ count) × (count ≤ most_sessions)
 IsWithin (offer calendar moment) = moment < day
 IsWithin (services catalogue id) = id < shorts
 IsWithin _ = Unit {0}
@@ -104,6 +111,9 @@ IsAudit words plan trace = Asks words (audit plan trace)
 
 abbrev pub IsTalk : List (List ℕ) → List ℕ → List ℕ → ℕ → Type 0
 IsTalk words site vehicle seed = Asks words (talk site vehicle seed)
+
+abbrev pub IsGenerate : List (List ℕ) → ℕ → ℕ → Type 0
+IsGenerate words seed count = Asks words (generate seed count)
 
 abbrev pub IsDecode : List (List ℕ) → MessageDialect → List ℕ → Type 0
 IsDecode words dialect hex = Asks words (decode dialect hex)
@@ -138,6 +148,7 @@ asked_of (Car plan) = car plan.now
 asked_of (Replay plan trace) = replay plan.now trace.now
 asked_of (Audit plan trace) = audit plan.now trace.now
 asked_of (Talk site vehicle seed) = talk site.now vehicle.now seed
+asked_of (Generate seed count) = generate seed count
 asked_of (Decode dialect hex) = decode dialect hex.now
 asked_of (Encode dialect text) = encode dialect text.now
 asked_of (Basic script) = basic script.now

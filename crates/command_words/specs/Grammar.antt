@@ -1,5 +1,5 @@
 -- Own: the program's commands as `clap` reads them, and what it finds.
-use Rattle.std.specs.Prelude.{◌≡◌, ℕ, Bool, ◌&&◌, nat_lt, if◌then◌else◌, true, false, List, [], ◌∷◌, length, map, find, Option, Some, None, codes, decimal, option_and_then, option_map, IsSomeAnd}
+use Rattle.std.specs.Prelude.{◌≡◌, ℕ, ◌+◌, Bool, ◌&&◌, nat_le, nat_lt, if◌then◌else◌, true, false, List, [], ◌∷◌, length, map, find, Option, Some, None, codes, decimal, option_and_then, option_map, IsSomeAnd}
 use Rattle.std.specs.Str.{bytes_eq}
 use Rattle.std.specs.Str.Parse.{digits_value}
 use Rattle.clap.specs.Walk.{Row, Rule, Text, first_of}
@@ -7,7 +7,7 @@ use Rattle.clap.specs.Simple.{App, Shape, new_rule, new_shape}
 use Rattle.clap.specs.declared.builder.value_parser.Reading.TheVariants.{AsWritten}
 use Rattle.clap.specs.declared.parser.matches.ValueSource.TheVariants.{CommandLine}
 use Rattle.message_dialects.specs.declared.dialect.MessageDialect.{MessageDialect}
-use Rattle.command_words.specs.Command.{Asked, station, car, replay, audit, talk, decode, encode, basic, migrate, offer, schedule, services, pick, day, shorts, seeds, dialect_named}
+use Rattle.command_words.specs.Command.{Asked, station, car, replay, audit, talk, generate, decode, encode, basic, migrate, offer, schedule, services, pick, day, shorts, seeds, most_sessions, dialect_named}
 use Rattle.command_words.specs.declared.forms.Values.{Values}
 use Rattle.command_words.specs.declared.forms.Values.TheVariants.{One, Two, Three}
 
@@ -38,26 +38,35 @@ abbrev pub dialect_and_value : List Row → Option (MessageDialect × Text)
 dialect_and_value rows =
     option_and_then (λ dialect. option_map (λ value. (dialect, value)) (second rows)) (option_and_then dialect_named (first rows))
 
--- the number below a bound that a word is, in decimal digits without a leading zero
-abbrev pub is_number : ℕ → Text → ℕ → Bool
-is_number bound word n = bytes_eq (decimal n) word && nat_lt n bound
+-- the number from a least one on, below a bound, that a word is, in decimal digits without a leading zero
+abbrev pub is_number : ℕ → ℕ → Text → ℕ → Bool
+is_number least bound word n = bytes_eq (decimal n) word && nat_le least n && nat_lt n bound
 
-unfoldable pub number_named : ℕ → Text → Option ℕ
-number_named bound word = if is_number bound word (digits_value 10 word) then Some (digits_value 10 word) else None
+unfoldable pub number_named : ℕ → ℕ → Text → Option ℕ
+number_named least bound word = if is_number least bound word (digits_value 10 word) then Some (digits_value 10 word) else None
 
 -- the first, and the number below a bound that the second is
 abbrev pub value_and_number : ℕ → List Row → Option (Text × ℕ)
 value_and_number bound rows =
-    option_and_then (λ value. option_map (λ number. (value, number)) (option_and_then (number_named bound) (second rows))) (first rows)
+    option_and_then (λ value. option_map (λ number. (value, number)) (option_and_then (number_named 0 bound) (second rows))) (first rows)
 
 -- the seed that a word is
 abbrev pub seed_named : Text → Option ℕ
-seed_named word = number_named seeds word
+seed_named word = number_named 0 seeds word
 
 -- the first two, and the seed that the third is
 abbrev pub both_and_seed : List Row → Option (Text × Text × ℕ)
 both_and_seed rows =
     option_and_then (λ pair. option_map (λ seed. (pair.0, pair.1, seed)) (option_and_then seed_named (third rows))) (both rows)
+
+-- the count of sessions that a word is
+abbrev pub count_named : Text → Option ℕ
+count_named word = number_named 1 (most_sessions + 1) word
+
+-- the seed that the first is, and the count that the second is
+abbrev pub seed_and_count : List Row → Option (ℕ × ℕ)
+seed_and_count rows =
+    option_and_then (λ seed. option_map (λ count. (seed, count)) (option_and_then count_named (second rows))) (option_and_then seed_named (first rows))
 
 -- ---- forms
 
@@ -103,6 +112,14 @@ with_seed name make = record {
   asks = λ rows. option_map (λ found. make found.0 found.1 found.2) (both_and_seed rows);
 }
 
+-- a seed, and a count of sessions
+abbrev pub with_count : Text → (ℕ → ℕ → Asked) → Form
+with_count name make = record {
+  name = name;
+  values = Two;
+  asks = λ rows. option_map (λ pair. make pair.0 pair.1) (seed_and_count rows);
+}
+
 -- the forms of all commands
 abbrev pub forms : List Form
 forms =
@@ -111,6 +128,7 @@ forms =
     ∷ with_two (codes "replay") (λ plan trace. replay plan trace)
     ∷ with_two (codes "audit") (λ plan trace. audit plan trace)
     ∷ with_seed (codes "talk") (λ site vehicle seed. talk site vehicle seed)
+    ∷ with_count (codes "generate") (λ seed count. generate seed count)
     ∷ on_dialect (codes "decode") (λ dialect hex. decode dialect hex)
     ∷ on_dialect (codes "encode") (λ dialect text. encode dialect text)
     ∷ with_one (codes "basic") (λ script. basic script)

@@ -46,12 +46,13 @@ macro_rules! with_three {
 }
 
 /// All commands.
-pub(crate) const FORMS: [Form; 13] = [
+pub(crate) const FORMS: [Form; 14] = [
     with_one!("station"),
     with_one!("car"),
     with_two!("replay"),
     with_two!("audit"),
     with_three!("talk"),
+    with_two!("generate"),
     with_two!("decode"),
     with_two!("encode"),
     with_one!("basic"),

@@ -3,7 +3,7 @@
 ghost use Rattle.std.specs.Prelude.{◌≡◌, ◌<◌, ◌↔◌, IfOk, IfErr, option_map};
 ghost use Rattle.clap.specs.Words.{found_of, rows_of, subcommand_rows_of};
 ghost use Rattle.command_words.specs.Command.{HasWordsFault, IsCommand, asked_of, dialect_named};
-ghost use Rattle.command_words.specs.Grammar.{first, second, third, both, both_and_seed, dialect_and_value, number_named, seed_named, value_and_number, told, told_of};
+ghost use Rattle.command_words.specs.Grammar.{first, second, third, both, both_and_seed, count_named, dialect_and_value, number_named, seed_and_count, seed_named, value_and_number, told, told_of};
 
 use crate::grammar::matches_of;
 use crate::word_list::WordList;
@@ -45,6 +45,11 @@ pub enum Command<'a> {
         station: &'a str,
         car: &'a str,
         seed: u64,
+    },
+    /// Lets so many sessions follow one another over a pipe in memory, as the generator draws them by this seed.
+    Generate {
+        seed: u64,
+        count: u32,
     },
     /// Prints the text of a payload of a dialect.
     Decode {
@@ -131,6 +136,9 @@ fn command_named<'a>(name: &str, values: &ArgMatches<'a>) -> Option<Command<'a>>
         "talk" => {
             with_seed(values).map(|(station, car, seed)| Command::Talk { station, car, seed })
         }
+        "generate" => {
+            seed_and_count(values).map(|(seed, count)| Command::Generate { seed, count })
+        }
         "decode" => on_dialect(values).map(|(dialect, hex)| Command::Decode { dialect, hex }),
         "encode" => on_dialect(values).map(|(dialect, text)| Command::Encode { dialect, text }),
         "basic" => first(values).map(|script| Command::Basic { script }),
@@ -190,7 +198,7 @@ fn with_number<'a>(values: &ArgMatches<'a>, bound: u32) -> Option<(&'a str, u32)
 /// The number below a bound that a word is.
 fn number_named(word: &str, bound: u32) -> Option<u32>
     requires { 0 < bound }
-    ensures { result ≡ number_named bound word.now }
+    ensures { result ≡ number_named 0 bound word.now }
 {
     match number(word.as_bytes(), 0, u64::from(bound - 1)) {
         Ok(number) => Some(number as u32),
@@ -213,6 +221,25 @@ fn seed_named(word: &str) -> Option<u64>
 {
     match number(word.as_bytes(), 0, u64::MAX) {
         Ok(seed) => Some(seed),
+        Err(_) => None,
+    }
+}
+
+/// The seed and the count that the values of a command are.
+fn seed_and_count<'a>(values: &ArgMatches<'a>) -> Option<(u64, u32)>
+    ensures { result ≡ seed_and_count (rows_of (found_of values.now)) }
+{
+    let seed = seed_named(first(values)?)?;
+    let count = count_named(second(values)?)?;
+    Some((seed, count))
+}
+
+/// The count of sessions that a word is, 1 to 1,000.
+fn count_named(word: &str) -> Option<u32>
+    ensures { result ≡ count_named word.now }
+{
+    match number(word.as_bytes(), 1, 1000) {
+        Ok(count) => Some(count as u32),
         Err(_) => None,
     }
 }
