@@ -69,3 +69,4 @@ pub mod FewExchanges
 pub mod Steady
 pub mod WellEnded
 pub mod PipeRuns
+pub mod AllSteps
