@@ -46,7 +46,7 @@ def row(name, words, status, line, *said, files=(), **how):
             expect(name, text in err, f"standard error lacks {text!r}: {err!r}")
 
 
-COMMANDS = ["station PLAN", "car PLAN", "replay PLAN TRACE", "audit PLAN TRACE", "talk STATION CAR SEED", "decode DIALECT HEX", "encode DIALECT TEXT", "basic SCRIPT", "migrate TRACE", "offer CALENDAR MOMENT", "schedule NEED HEX", "services CATALOGUE ID", "pick WANT HEX"]
+COMMANDS = ["station PLAN", "car PLAN", "replay PLAN TRACE", "audit PLAN TRACE", "talk STATION CAR SEED", "generate SEED COUNT", "decode DIALECT HEX", "encode DIALECT TEXT", "basic SCRIPT", "migrate TRACE", "offer CALENDAR MOMENT", "schedule NEED HEX", "services CATALOGUE ID", "pick WANT HEX"]
 
 
 def misused_words():
@@ -61,6 +61,10 @@ def misused_words():
     row("no moment", ["offer", "c", "86400"], 2, "words\n", "`86400` is no MOMENT", "0 to 86399")
     row("no identifier", ["services", "c", "65536"], 2, "words\n", "`65536` is no ID", "0 to 65535")
     row("no seed", ["talk", "s", "c", "01"], 2, "words\n", "`01` is no SEED", "0 to 18446744073709551615")
+    row("no seed of a list", ["generate", "18446744073709551616", "3"], 2, "words\n", "`18446744073709551616` is no SEED", "0 to 18446744073709551615")
+    row("no session", ["generate", "7", "0"], 2, "words\n", "`0` is no COUNT", "1 to 1000", "Usage: v2g_charge generate SEED COUNT")
+    row("too many sessions", ["generate", "7", "1001"], 2, "words\n", "`1001` is no COUNT", "1 to 1000")
+    row("no count", ["generate", "7"], 2, "words\n", "`generate` wants 2 words behind it, and 1 is there")
     row("no want", ["pick", "Port", "00"], 2, "words\n", "`Port` is no WANT", "NAME=VALUE")
     row("an option", ["station", "-v"], 2, "words\n", "`-v` begins with a dash")
 

@@ -2,6 +2,7 @@
 
 use command_words::WordList;
 use std::{fmt, io};
+use text_tokens::number;
 
 /// A command: its name, the words behind it, what it does, and an example.
 struct Usage {
@@ -11,7 +12,7 @@ struct Usage {
     example: &'static str,
 }
 
-const COMMANDS: [Usage; 13] = [
+const COMMANDS: [Usage; 14] = [
     Usage {
         name: "station",
         values: "PLAN",
@@ -41,6 +42,12 @@ const COMMANDS: [Usage; 13] = [
         values: "STATION CAR SEED",
         does: "lets the station and the car of the plans in the files STATION and CAR talk in memory, in pieces by the number SEED",
         example: "v2g_charge talk station.toml car.toml 1",
+    },
+    Usage {
+        name: "generate",
+        values: "SEED COUNT",
+        does: "lets COUNT cars talk in memory, one after another, with the station without a file, as they are drawn by the number SEED, and counts what it does",
+        example: "v2g_charge generate 7 3",
     },
     Usage {
         name: "decode",
@@ -162,14 +169,29 @@ fn say_values<E: Eprint>(rt: &E, usage: &Usage, words: &WordList) -> io::Result<
         (_, Some(id), _) if usage.values.ends_with(" ID") => eprintln!(rt;
             "`{id}` is no ID: write the service's identifier, 0 to 65535, in digits without a zero in front."
         ),
-        (_, _, Some(seed)) if usage.values.ends_with("SEED") => eprintln!(rt;
-            "`{seed}` is no SEED: write a number of 64 bits, 0 to 18446744073709551615, in digits without a zero in front."
+        (_, _, Some(seed)) if usage.values.ends_with("SEED") => say_no_seed(rt, seed),
+        (Some(seed), ..) if usage.values.starts_with("SEED") && !is_seed(seed) => {
+            say_no_seed(rt, seed)
+        }
+        (_, Some(count), _) if usage.values.ends_with("COUNT") => eprintln!(rt;
+            "`{count}` is no COUNT: write how many sessions, 1 to 1000, in digits without a zero in front."
         ),
         (Some(want), ..) if usage.values.starts_with("WANT") => eprintln!(rt;
             "`{want}` is no WANT: write 1 to 16 pairs NAME=VALUE with `;` between them, a VALUE being true, false, a number of 32 bits, or at most 64 characters in double quotes."
         ),
         _ => rt.eprintln("The words are no command."),
     }
+}
+
+/// Whether a word is a number of 64 bits.
+fn is_seed(word: &str) -> bool {
+    number(word.as_bytes(), 0, u64::MAX).is_ok()
+}
+
+fn say_no_seed<E: Eprint>(rt: &E, seed: &str) -> io::Result<()> {
+    eprintln!(rt;
+        "`{seed}` is no SEED: write a number of 64 bits, 0 to 18446744073709551615, in digits without a zero in front."
+    )
 }
 
 /// The first word that begins with a dash.
