@@ -48,3 +48,5 @@ pub mod Cars
 pub mod Paces
 pub mod Deadlines
 pub mod Told
+pub mod Replied
+pub mod Measured

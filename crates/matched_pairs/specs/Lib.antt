@@ -18,3 +18,4 @@ pub mod Bounds
 pub mod Paces
 pub mod Steps
 pub mod Told
+pub mod Voltages
