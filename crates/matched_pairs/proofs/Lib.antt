@@ -50,3 +50,5 @@ pub mod Deadlines
 pub mod Told
 pub mod Replied
 pub mod Measured
+pub mod Raised
+pub mod Unsaid
