@@ -52,3 +52,4 @@ pub mod Replied
 pub mod Measured
 pub mod Raised
 pub mod Unsaid
+pub mod PreCharging

@@ -31,6 +31,9 @@ some_moment o m n e f = cc
 no_moment : (o : Option (Option ℕ)) (m : ℕ) → o ≡ Some (Some m) → o ≡ Some None → ⊥
 no_moment o m e f = cc
 
+waits_not : (z x : Session) (again : ℕ) → Some z ≡ Some x → z.again ≡ Some again → x.again ≡ None → ⊥
+waits_not z x again e a n = cc
+
 -- ---- what is so of it
 
 pub record Gives (target n : ℕ) (s : Charger) (f : Facts) : Type 0 where
@@ -45,17 +48,15 @@ pub record IsDue (target given at : ℕ) (s : Charger) (f : Facts) : Type 0 wher
   pub ordered : s.limits.voltage ≡ target
   pub gives : Gives target before s f
 
--- the next order comes behind that: the moment is reached, or the car waits longer to ask once more, or it goes on to PowerDelivery Start, or it has gone
+-- the next order comes behind that: the moment is reached, or the car waits longer to ask once more
 pub data IsBeyond (at now : ℕ) (y : Option Session) : Type 0 where
   IsReached : at ≤ now → IsBeyond at now y
   WaitsOn : (x : Session) → y ≡ Some x → (again : ℕ) → x.again ≡ Some again → at ≤ again → IsBeyond at now y
-  Starts : IsInPhase phase.Starting y → IsBeyond at now y
-  HasGone : y ≡ None → IsBeyond at now y
 
 -- `raised`: limits were ordered since the car read last
 pub data Rising (target now given : ℕ) (raised : Bool) (y : Option Session) (s : Charger) (f : Facts) : Type 0 where
   Steady : raised ≡ false → slice_get s.moments 4 ≡ Some None → Gives target given s f → Rising target now given raised y s f
-  IsRaised : raised ≡ true → IsDue target given (now + 20) s f → IsInPhase phase.PreCharging y ⊎ (y ≡ None) → Rising target now given raised y s f
+  IsRaised : raised ≡ true → IsDue target given (now + 20) s f → IsInPhase phase.PreCharging y → Rising target now given raised y s f
   IsSoon : raised ≡ false → (at : ℕ) → at ≤ now + 20 → IsDue target given at s f → IsBeyond at now y → Rising target now given raised y s f
 
 -- and no event of an opened contactor is to come (place 7). `told`: the newest turn brought bytes to an end
@@ -229,10 +230,61 @@ orders target now given told y old after f g i w small e same p none k seven =
         to_come = four;
         ordered = ap (λ (s : Charger). s.limits.voltage) e;
         gives = record { gives = ap (λ (s : Charger). s.voltage) e ∙ k.gives; tells = same ∙ k.tells ∙ sym (ap (λ (s : Charger). s.voltage) e) };
-      }) (inl p);
+      }) p;
       falls = ap (λ (s : Charger). slice_get s.moments 7) e ∙ other_place old.moments 4 7 (later now 20) (apart 4 7 (omega arith)) ∙ seven;
       late = λ t at m. is_later now at (some_moment (slice_get after.moments 4) at (now + 20) m four);
     }
+
+-- ---- the car's session changes, or time passes
+
+later_too : (at now behind : ℕ) → at ≤ now + 20 → now ≤ behind → at ≤ behind + 20
+later_too at now behind l m = omega (arith, l, m)
+
+moves_rising : (target now behind given : ℕ) (raised : Bool) (y z : Option Session) (s : Charger) (f : Facts) → now ≤ behind → (raised ≡ true → now ≡ behind)
+    → (IsInPhase phase.PreCharging y → IsInPhase phase.PreCharging z) → ((at : ℕ) → IsBeyond at now y → IsBeyond at behind z) → Rising target now given raised y s f → Rising target behind given raised z s f
+moves_rising target now behind given raised y z s f l same ph beyond (Steady r n k) = Steady r n k
+moves_rising target now behind given raised y z s f l same ph beyond (IsRaised r d p) = IsRaised r (subst (λ (t : ℕ). IsDue target given (t + 20) s f) (same r) d) (ph p)
+moves_rising target now behind given raised y z s f l same ph beyond (IsSoon r at m d k) = IsSoon r at (later_too at now behind m l) d (beyond at k)
+
+pub moves_volts : (target now behind given : ℕ) (raised told later : Bool) (y z : Option Session) (s : Charger) (f : Facts) → now ≤ behind → (raised ≡ true → now ≡ behind)
+    → (IsInPhase phase.PreCharging y → IsInPhase phase.PreCharging z) → ((at : ℕ) → IsBeyond at now y → IsBeyond at behind z)
+    → (later ≡ true → (at : ℕ) → slice_get s.moments 4 ≡ Some (Some at) → behind < at) → Volts target now given raised told y s f → Volts target behind given raised later z s f
+moves_volts target now behind given raised told later y z s f l same ph beyond late k =
+    record { rising = moves_rising target now behind given raised y z s f l same ph beyond k.rising; falls = k.falls; late = late }
+
+-- the car reads
+same_twenty : (now : ℕ) → now + 20 ≤ now + 20
+same_twenty now = omega arith
+
+reads_rising : (target now given : ℕ) (raised : Bool) (y z : Option Session) (s : Charger) (f : Facts) → (IsInPhase phase.PreCharging y → IsBeyond (now + 20) now z)
+    → ((at : ℕ) → IsBeyond at now y → IsBeyond at now z) → Rising target now given raised y s f → Rising target now given false z s f
+reads_rising target now given raised y z s f fresh beyond (Steady r n k) = Steady refl n k
+reads_rising target now given raised y z s f fresh beyond (IsRaised r d p) = IsSoon refl (now + 20) (same_twenty now) d (fresh p)
+reads_rising target now given raised y z s f fresh beyond (IsSoon r at l d k) = IsSoon refl at l d (beyond at k)
+
+pub reads_volts : (target now given : ℕ) (raised told : Bool) (y z : Option Session) (s : Charger) (f : Facts) → (IsInPhase phase.PreCharging y → IsBeyond (now + 20) now z)
+    → ((at : ℕ) → IsBeyond at now y → IsBeyond at now z) → Volts target now given raised told y s f → Volts target now given false told z s f
+reads_volts target now given raised told y z s f fresh beyond k = record { rising = reads_rising target now given raised y z s f fresh beyond k.rising; falls = k.falls; late = k.late }
+
+-- ---- where the post reads a request that isn't the one behind its newest order, nothing is due
+
+pub record IsSteady (target given : ℕ) (s : Charger) (f : Facts) : Type 0 where
+  pub none : slice_get s.moments 4 ≡ Some None
+  pub gives : Gives target given s f
+
+beyond_not : (at now : ℕ) (y : Option Session) (x : Session) → y ≡ Some x → x.again ≡ None → now < at → IsBeyond at now y → ⊥
+beyond_not at now y x e n l (IsReached r) = omega (arith, l, r)
+beyond_not at now y x e n l (WaitsOn z i again a w) = waits_not z x again (sym i ∙ e) a n
+
+steady_by : (target now given : ℕ) (raised : Bool) (y : Option Session) (x : Session) (s : Charger) (f : Facts) → raised ≡ false → y ≡ Some x → x.again ≡ None
+    → ((at : ℕ) → slice_get s.moments 4 ≡ Some (Some at) → now < at) → Rising target now given raised y s f → IsSteady target given s f
+steady_by target now given raised y x s f e i n late (Steady r none k) = record { none = none; gives = k }
+steady_by target now given raised y x s f e i n late (IsRaised r d p) = absurd (false_true (sym e ∙ r))
+steady_by target now given raised y x s f e i n late (IsSoon r at l d k) = absurd (beyond_not at now y x i n (late at d.to_come) k)
+
+pub steady : (target now given : ℕ) (raised told : Bool) (y : Option Session) (x : Session) (s : Charger) (f : Facts) → raised ≡ false → told ≡ true → y ≡ Some x → x.again ≡ None
+    → Volts target now given raised told y s f → IsSteady target given s f
+steady target now given raised told y x s f e t i n k = steady_by target now given raised y x s f e i n (k.late t) k.rising
 
 -- ---- bytes are heard
 

@@ -7,6 +7,7 @@ use Rattle.v2gtp_frames.specs.Frames.{frame, IsPayload}
 use Rattle.v2gtp_frames.specs.Reading.{behind_front}
 use Rattle.post_spec.specs.Codecs as post
 use Rattle.station_spec.specs.States.{State}
+use Rattle.car_rules.specs.declared.stage.CarPhase.TheVariants as phase
 use Rattle.car_rules.specs.declared.stage.CarStage.{CarStage}
 use Rattle.car_spec.specs.Codecs as car
 use Rattle.car_spec.specs.Codecs.{Told}
@@ -38,6 +39,7 @@ pub record ReadsChoice (plan : CarPlan) (k : car_states.State) (w : car.Judged) 
   pub session_is : k.session ≡ Some session
   pub unstaged : session.stage ≡ None
   pub stage : CarStage
+  pub first : stage.phase ≡ phase.SettingUp
   pub is : read plan (decided plan k) w ≡ asking_first plan (decided plan k) session stage
 
 -- the reply of an exchange, and nothing else is under way
@@ -72,6 +74,7 @@ chooses c cc post_plan plan k w request unread begun a short u i =
       session_is = still.session_is;
       unstaged = a.stage_is;
       stage = (both post_plan plan token begun.dialect []).car;
+      first = refl;
       is = begun.begins k a.session w (same_session plan k ∙ still.session_is) a.stage_is
           (cars_read_words cc plan k a.session begun.response w a.still (a.unread_is ∙ u) short i);
     }

@@ -44,7 +44,7 @@ use Rattle.matched_pairs.specs.Voltages.{HasPhase, IsInPhase}
 use Rattle.matched_pairs.proofs.CarPhases.{still_acts, ended_acts, DrivesLast, drives_last, Finishes, finishes}
 use Rattle.matched_pairs.proofs.CarMoves.{begins_unstaged}
 use Rattle.matched_pairs.proofs.Pacing.{IsRepeated, AgainBy, PacedBy}
-use Rattle.matched_pairs.proofs.Measured.{IsBeyond, IsReached, WaitsOn, Starts, HasGone}
+use Rattle.matched_pairs.proofs.Measured.{IsBeyond, IsReached, WaitsOn}
 
 some_none : {A : Type 0} (a : A) → Some a ≡ None → ⊥
 some_none a e = cc
@@ -277,22 +277,12 @@ says_due plan k y at s e u p (inr t) =
 
 -- ---- so the next order comes behind what is due
 
-stage_heard : (event : Event) (at : ℕ) (y : Option Session) → IsInPhase phase.Starting y → IsInPhase phase.Starting (session_heard event at y)
-stage_heard event at None i = absurd i
-stage_heard event at (Some x) i = i
-
 stays_later : (at now behind : ℕ) → at ≤ now → now ≤ behind → at ≤ behind
 stays_later at now behind l m = omega (arith, l, m)
 
-pub heard_beyond : (event : Event) (at now behind due : ℕ) (y : Option Session) → session_heard event at None ≡ None → now ≤ behind → IsBeyond due now y → IsBeyond due behind (session_heard event at y)
-heard_beyond event at now behind due y n l (IsReached r) = IsReached (stays_later due now behind r l)
-heard_beyond event at now behind due y n l (WaitsOn x e again a w) = WaitsOn _ (ap (session_heard event at) e) again a w
-heard_beyond event at now behind due y n l (Starts i) = Starts (stage_heard event at y i)
-heard_beyond event at now behind due y n l (HasGone e) = HasGone (ap (session_heard event at) e ∙ n)
-
-stage_said : (now : ℕ) (y : Option Session) → IsInPhase phase.Starting y → IsInPhase phase.Starting (option_map (awaiting now) y)
-stage_said now None i = absurd i
-stage_said now (Some x) i = i
+pub heard_beyond : (event : Event) (at now behind due : ℕ) (y : Option Session) → now ≤ behind → IsBeyond due now y → IsBeyond due behind (session_heard event at y)
+heard_beyond event at now behind due y l (IsReached r) = IsReached (stays_later due now behind r l)
+heard_beyond event at now behind due y l (WaitsOn x e again a w) = WaitsOn _ (ap (session_heard event at) e) again a w
 
 through : (due again now : ℕ) → due ≤ again → again ≤ now → due ≤ now
 through due again now l m = omega (arith, l, m)
@@ -300,5 +290,3 @@ through due again now l m = omega (arith, l, m)
 pub says_beyond : (now clock due : ℕ) (y : Option Session) → ((x : Session) (again : ℕ) → y ≡ Some x → x.again ≡ Some again → again ≤ now) → IsBeyond due now y → IsBeyond due now (option_map (awaiting clock) y)
 says_beyond now clock due y k (IsReached r) = IsReached r
 says_beyond now clock due y k (WaitsOn x e again a w) = IsReached (through due again now w (k x again e a))
-says_beyond now clock due y k (Starts i) = Starts (stage_said clock y i)
-says_beyond now clock due y k (HasGone e) = HasGone (ap (option_map (awaiting clock)) e)
