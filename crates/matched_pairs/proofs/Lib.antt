@@ -53,3 +53,4 @@ pub mod Measured
 pub mod Raised
 pub mod Unsaid
 pub mod PreCharging
+pub mod Voltages

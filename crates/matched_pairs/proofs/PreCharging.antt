@@ -84,6 +84,9 @@ stage_past o c e p = subst PastStage e p
 pub past_of : (y : Option Session) (x : Session) (c : CarStage) → y ≡ Some x → x.stage ≡ Some c → PastStart y → is_from_start c.phase ≡ true
 past_of y x c e f p = stage_past x.stage c f (subst PastStart e p)
 
+pub past_unstaged : (y : Option Session) (x : Session) → y ≡ Some x → x.stage ≡ None → PastStart y → ⊥
+past_unstaged y x e n p = subst PastStage n (subst PastStart e p)
+
 -- one that pre-charges hasn't
 stage_not_past : (o : Option CarStage) → HasPhase phase.PreCharging o → PastStage o → ⊥
 stage_not_past None i p = p

@@ -237,6 +237,15 @@ sends_pending c plan limit s y way bytes w i =
     let t = sends_by c i.todo bytes i.done in
     IsDecided t.0 (said_before plan s t.0 w (i.acts ∙ ap (λ (x : Todo). Some x) t.1))
 
+-- behind the end of its session it says nothing
+nothing_said : (spoken : Spoken) → first nothing ≡ Some (states.Say spoken) → ⊥
+nothing_said spoken f = some_none _ (sym f)
+
+pub ends_pending : (number : ℕ) (t s : State) (y : Option car_states.Session) (way : List ℕ) → Pending (acted (End number) true t) y (way ++ []) → Pending s y way
+ends_pending number t s y way (IsDecided spoken f) = absurd (nothing_said spoken f)
+ends_pending number t s y way (IsOnItsWay w) = IsOnItsWay (λ e. w (ap (λ (l : List ℕ). l ++ []) e))
+ends_pending number t s y way (IsUnread u) = IsUnread u
+
 -- ---- a turn finds nothing decided
 
 quiet_says : (plan : PostPlan) (s : State) (spoken : Spoken) → IsQuiet plan s → first s.agenda ≡ Some (states.Say spoken) → ⊥

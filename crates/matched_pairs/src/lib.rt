@@ -19,5 +19,6 @@ pub use hearing::{cars_hear, posts_hear};
 pub use timing::{
     clocks_are_right, closes_are_heard, deadlines_are_kept, moments_are_bounded, powers_are_within,
     sessions_are_undisturbed, sessions_keep_pace, steady_sessions_end, time_passes_in_pauses,
-    timely_sessions_are_undisturbed, timely_sessions_end, words_are_told,
+    timely_sessions_are_undisturbed, timely_sessions_end, voltages_are_told, voltages_rise,
+    words_are_told,
 };
