@@ -193,7 +193,7 @@ limits_since None clock at v i w k = tt
 limits_since (Some x) clock at v i w k = k
 
 -- behind a reply no row waits
-confirmed_not : (r : Phase) → is_waiting (confirmed_row r) ≡ false
+pub confirmed_not : (r : Phase) → is_waiting (confirmed_row r) ≡ false
 confirmed_not row.DcClosing = refl
 confirmed_not row.AcClosing = refl
 confirmed_not other = refl

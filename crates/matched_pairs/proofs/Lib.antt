@@ -53,6 +53,12 @@ pub mod Cars
 pub mod Paces
 pub mod Deadlines
 pub mod Told
+pub mod Replied
+pub mod Measured
+pub mod Raised
+pub mod Unsaid
+pub mod PreCharging
+pub mod Voltages
 pub mod Pending
 pub mod Repeating
 pub mod Unready

@@ -244,7 +244,7 @@ IsFirstOf None (End cause) = Unit {0}
 IsFirstOf None (Give o) = ⊥
 IsFirstOf None (Answer bytes) = ⊥
 
-first_of : (o : Option Order) (r : Option Spoken) (e : Option EndCause) (c : post.Codecs) (a : Agenda) (todo : Todo) (act : Act) → a ≡ record nothing { order = o; reply = r; ending = e } → first a ≡ Some todo
+pub first_of : (o : Option Order) (r : Option Spoken) (e : Option EndCause) (c : post.Codecs) (a : Agenda) (todo : Todo) (act : Act) → a ≡ record nothing { order = o; reply = r; ending = e } → first a ≡ Some todo
     → IsDone c todo act true → IsFirstOf o act
 first_of (Some o) r e c a todo act is f d =
     let own : todo ≡ states.Give o = some_todo todo (states.Give o) (sym f ∙ ap first is) in

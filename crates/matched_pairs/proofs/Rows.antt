@@ -86,7 +86,7 @@ charging_leaves true post plan told shown = limits_leave _ _ _
 charging_leaves false post plan told shown = limits_leave _ _ _
 
 -- before PowerDelivery Start no order is of the contactor
-early_leaves : (ph : CarPhase) (b live : Bool) (post : PostPlan) (plan : CarPlan) (d : Dialect) (told shown : ℕ) → is_from_start ph ≡ false
+pub early_leaves : (ph : CarPhase) (b live : Bool) (post : PostPlan) (plan : CarPlan) (d : Dialect) (told shown : ℕ) → is_from_start ph ≡ false
     → Leaves (order_by (end_of ph) live (if b then granted_order post told shown (dropped_ask (ask_of plan d ph)) else None))
 early_leaves phase.SettingUp b live post plan d told shown e = either_leaves b None none_leaves
 early_leaves phase.Discovering b live post plan d told shown e = either_leaves b None none_leaves
@@ -197,7 +197,7 @@ early_for ac (phase.Welding left) r e f = absurd (false_true (sym f))
 early_for ac phase.Ending r e f = absurd (false_true (sym f))
 
 -- a late row takes a request behind PowerDelivery Start
-from_behind : (ph : CarPhase) → is_behind_start ph ≡ true → is_from_start ph ≡ true
+pub from_behind : (ph : CarPhase) → is_behind_start ph ≡ true → is_from_start ph ≡ true
 from_behind phase.Charging e = refl
 from_behind phase.Stopping e = refl
 from_behind phase.Renegotiating e = refl
@@ -237,7 +237,7 @@ stops_behind true b n = refl
 stops_behind false b n = welds_behind b n
 
 -- a renegotiation isn't asked for, as the row behind it shows
-leads_behind : (ph : CarPhase) (plan : CarPlan) (d : Dialect) (told : Tell) (stopping : Bool) → is_from_start ph ≡ true → (ph ≡ phase.Renegotiating → ⊥) → is_behind_start (leads plan d ph told stopping) ≡ true
+pub leads_behind : (ph : CarPhase) (plan : CarPlan) (d : Dialect) (told : Tell) (stopping : Bool) → is_from_start ph ≡ true → (ph ≡ phase.Renegotiating → ⊥) → is_behind_start (leads plan d ph told stopping) ≡ true
 leads_behind phase.Starting plan d told stopping e n = refl
 leads_behind phase.Charging plan d told stopping e n = charges_behind stopping (renews d told)
 leads_behind phase.Stopping plan d told stopping e n = stops_behind (is_ac plan.mode) (plan.welding == 0) (plan.welding - 1)
@@ -288,7 +288,7 @@ late_confirmed row.DcChecked e = e
 late_confirmed row.DcPreCharging e = e
 late_confirmed row.AcReady e = e
 
-no_renewal : (ac : Bool) (ph : CarPhase) (r : Phase) → IsRowFor ac ph r → ph ≡ phase.Renegotiating → ⊥
+pub no_renewal : (ac : Bool) (ph : CarPhase) (r : Phase) → IsRowFor ac ph r → ph ≡ phase.Renegotiating → ⊥
 no_renewal ac ph r i e = subst (λ (p : CarPhase). IsRowFor ac p r) e i
 
 pub late_behind : (post : PostPlan) (plan : CarPlan) (b : Both) (x : Outside) → Meets post b → IsAnswered post plan b x → is_from_start b.car.phase ≡ true → is_late (judged post plan b x).row ≡ true

@@ -20,6 +20,7 @@ pub mod Bounds
 pub mod Paces
 pub mod Steps
 pub mod Told
+pub mod Voltages
 pub mod Pending
 pub mod Quick
 pub mod Few

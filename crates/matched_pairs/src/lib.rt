@@ -23,5 +23,5 @@ pub use timing::{
     clocks_are_right, closes_are_heard, deadlines_are_kept, moments_are_bounded, powers_are_within,
     quick_steps_are_kept, repeats_are_of_now, sessions_are_undisturbed, sessions_keep_pace,
     steady_sessions_end, time_passes_in_pauses, timely_sessions_are_undisturbed,
-    timely_sessions_end, words_are_told,
+    timely_sessions_end, voltages_are_told, voltages_rise, words_are_told,
 };

@@ -12,9 +12,11 @@
 //! `sessions_keep_pace` (the moment from which the deadline of the post counts is past by 1,010 ms at most, a request that has no reply yet was said 60 ms
 //! before at most, and SessionSetup is replied to at 0) and `deadlines_are_kept` (so neither the deadlines of the post are reached nor those of the car for its
 //! connection and for a reply); `steady_sessions_end` (a session that is over then, but for the turns of a plan, has ended by SessionStop at both ends);
-//! `words_are_told` (a post reads a word only behind a turn that brought bytes to an end, so that nothing of its charger was due); `repeats_are_of_now` (a car
-//! that reads a reply by which it asks the same once more reads it at the moment at which the post judged the request, and the step wasn't done then);
-//! `quick_steps_are_kept` (so authorization, the parameters and the cable check are done early: none of their deadlines is reached).
+//! `words_are_told` (a post reads a word only behind a turn that brought bytes to an end, so that nothing of its charger was due); `repeats_are_of_now` (a
+//! car that reads a reply by which it asks the same once more reads it at the moment at which the post judged the request, and the step wasn't done then);
+//! `quick_steps_are_kept` (so authorization, the parameters and the cable check are done early: none of their deadlines is reached); `voltages_rise` (while
+//! the car pre-charges, the charger gives what it told, 100.0 V more with each order of limits, up to the target; its newest order it tells 20 ms behind it)
+//! and `voltages_are_told` (where the post reads a PreCharge request, the charger has told all that it was ordered).
 
 ghost use Rattle.car_spec.specs.Codecs as car;
 ghost use Rattle.matched_pairs.specs.Bounds.{MomentsAreBounded};
@@ -29,6 +31,7 @@ ghost use Rattle.matched_pairs.specs.Quick.{QuickStepsAreKept};
 ghost use Rattle.matched_pairs.specs.Steps.{DeadlinesAreKept, SteadySessionsEnd};
 ghost use Rattle.matched_pairs.specs.Timely.{TimelySessionsAreUndisturbed, TimelySessionsEnd};
 ghost use Rattle.matched_pairs.specs.Told.{WordsAreTold};
+ghost use Rattle.matched_pairs.specs.Voltages.{VoltagesAreTold, VoltagesRise};
 ghost use Rattle.post_spec.specs.Codecs as post;
 
 use car_spec::CarCoded;
@@ -102,4 +105,14 @@ pub fn repeats_are_of_now<C: Coded, D: CarCoded>()
 /// The deadlines of authorization, of the parameters and of the cable check aren't reached.
 pub fn quick_steps_are_kept<C: Coded, D: CarCoded>()
     ensures { QuickStepsAreKept (post.codecs C.negotiates C.reads C.encodes) (car.codecs D.offers D.responds D.reads D.encodes) }
+{}
+
+/// While the car pre-charges, the voltage that the charger gives and tells rises with each order of limits.
+pub fn voltages_rise<C: Coded, D: CarCoded>()
+    ensures { VoltagesRise (post.codecs C.negotiates C.reads C.encodes) (car.codecs D.offers D.responds D.reads D.encodes) }
+{}
+
+/// Where the post reads a PreCharge request, the charger has told all that it was ordered.
+pub fn voltages_are_told<C: Coded, D: CarCoded>()
+    ensures { VoltagesAreTold (post.codecs C.negotiates C.reads C.encodes) (car.codecs D.offers D.responds D.reads D.encodes) }
 {}

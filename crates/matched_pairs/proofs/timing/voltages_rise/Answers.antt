@@ -1,0 +1,5 @@
+use Rattle.matched_pairs.proofs.Voltages as voltages
+use Rattle.matched_pairs.proofs.timing.voltages_rise.Goals as goal
+
+pub returns : goal.returns
+returns g c = voltages.voltages_rise _ _
