@@ -11,6 +11,7 @@ use Rattle.planned_traces.specs.Files.{files_told}
 use Rattle.audit_command.specs.Own.{PassesOwn}
 use Rattle.own_codecs.specs.Codecs.{charge_codecs}
 use Rattle.pair_command.specs.Files.{plans_told}
+use Rattle.pair_command.specs.Generating.{GenerateLeaves}
 use Rattle.pair_command.specs.Leaving.{TalkLeaves}
 use Rattle.file_commands.specs.Offering.{OfferLeaves}
 use Rattle.payload_commands.specs.Detailing.{ServicesLeave}
@@ -71,6 +72,12 @@ same_talked holds tells a b p q m n same s k l before after h =
     subst (λ (x : ℕ). TalkLeaves site_codecs car_codecs tells x s (plans_told (holds b) (holds q) k l) before after) same.2
     (subst (λ (x : List ℕ). TalkLeaves site_codecs car_codecs tells m s (plans_told (holds b) (holds x) k l) before after) same.1
     (subst (λ (x : List ℕ). TalkLeaves site_codecs car_codecs tells m s (plans_told (holds x) (holds p) k l) before after) same.0 h))
+
+pub same_generated : (m n p q : ℕ) → (m ≡ n) × (p ≡ q) → (s : Status) (before after : SinkTold) → GenerateLeaves site_codecs car_codecs m p s before after
+    → GenerateLeaves site_codecs car_codecs n q s before after
+same_generated m n p q same s before after h =
+    subst (λ (x : ℕ). GenerateLeaves site_codecs car_codecs n x s before after) same.1
+    (subst (λ (x : ℕ). GenerateLeaves site_codecs car_codecs x p s before after) same.0 h)
 
 pub same_offered : (holds : List ℕ → Option (List ℕ)) (m n : ℕ) (a b : List ℕ) → (a ≡ b) × (m ≡ n) → (s : Status) (left : Option (List ℕ)) (k l : ℕ) (before after : SinkTold) →
     OfferLeaves m s (file_told (holds a) left k l) before after → OfferLeaves n s (file_told (holds b) left k l) before after

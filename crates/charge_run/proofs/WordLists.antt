@@ -1,7 +1,7 @@
 -- The words of a command.
-use Rattle.std.proofs.Common.{◌≡◌, ℕ, List}
+use Rattle.std.proofs.Common.{◌≡◌, ◌≤◌, ℕ, List}
 use Rattle.message_dialects.specs.declared.dialect.MessageDialect.{MessageDialect}
-use Rattle.command_words.specs.Command.{IsAudit, IsDecode, IsEncode, IsOffer, IsPick, IsServices, IsTalk, audit, decode, encode, offer, pick, services, talk}
+use Rattle.command_words.specs.Command.{IsAudit, IsDecode, IsEncode, IsGenerate, IsOffer, IsPick, IsServices, IsTalk, audit, decode, encode, generate, most_sessions, offer, pick, services, talk}
 use Rattle.command_words.proofs.Told.{one_asked}
 
 same_decode : (d e : MessageDialect) (a b : List ℕ) → decode d a ≡ decode e b → (d ≡ e) × (a ≡ b)
@@ -15,6 +15,9 @@ same_audit a b p q h = (cc, cc)
 
 same_talk : (a b p q : List ℕ) (m n : ℕ) → talk a p m ≡ talk b q n → (a ≡ b) × (p ≡ q) × (m ≡ n)
 same_talk a b p q m n h = (cc, cc, cc)
+
+same_generate : (m n p q : ℕ) → generate m p ≡ generate n q → (m ≡ n) × (p ≡ q)
+same_generate m n p q h = (cc, cc)
 
 same_offer : (m n : ℕ) (a b : List ℕ) → offer a m ≡ offer b n → (a ≡ b) × (m ≡ n)
 same_offer m n a b h = (cc, cc)
@@ -39,6 +42,14 @@ one_audit words a b p q h k = same_audit a b p q (one_asked words (audit a p) (a
 -- and two plans and one seed
 pub one_talk : (words : List (List ℕ)) (a b p q : List ℕ) (m n : ℕ) → IsTalk words a p m → IsTalk words b q n → (a ≡ b) × (p ≡ q) × (m ≡ n)
 one_talk words a b p q m n h k = same_talk a b p q m n (one_asked words (talk a p m) (talk b q n) h k)
+
+-- and one seed and one count
+pub one_generate : (words : List (List ℕ)) (m n p q : ℕ) → IsGenerate words m p → IsGenerate words n q → (m ≡ n) × (p ≡ q)
+one_generate words m n p q h k = same_generate m n p q (one_asked words (generate m p) (generate n q) h k)
+
+-- which is that of some sessions, and of few
+pub some_sessions : (words : List (List ℕ)) (seed count : ℕ) → IsGenerate words seed count → (1 ≤ count) × (count ≤ most_sessions)
+some_sessions words seed count is = is.within.1
 
 -- and one file and one moment
 pub one_offer : (words : List (List ℕ)) (m n : ℕ) (a b : List ℕ) → IsOffer words a m → IsOffer words b n → (a ≡ b) × (m ≡ n)

@@ -3,7 +3,7 @@
 ghost use Rattle.std.specs.Prelude.{◌≡◌, ◌<◌, ◌⊎◌, ℕ, List, [], ◌∷◌};
 ghost use Rattle.message_dialects.specs.declared.dialect.MessageDialect.{MessageDialect as OfDialect};
 ghost use Rattle.message_trees.specs.Texts.{IsUnscanned};
-ghost use Rattle.command_words.specs.Command.{IsNoCommand, IsStation, IsCar, IsReplay, IsAudit, IsTalk, IsDecode, IsEncode, IsBasic, IsMigrate, IsOffer, IsSchedule, IsServices, IsPick};
+ghost use Rattle.command_words.specs.Command.{IsNoCommand, IsStation, IsCar, IsReplay, IsAudit, IsTalk, IsGenerate, IsDecode, IsEncode, IsBasic, IsMigrate, IsOffer, IsSchedule, IsServices, IsPick};
 ghost use Rattle.command_status.specs.Completeness.{NoneRose};
 ghost use Rattle.command_status.specs.FaultLines.{Tells, words_line};
 ghost use Rattle.command_status.specs.Told.{file_told, sink_told, TellsAlways};
@@ -14,6 +14,7 @@ ghost use Rattle.audit_command.specs.Leaving.{AuditLeaves};
 ghost use Rattle.audit_command.specs.Own.{PassesOwn};
 ghost use Rattle.own_codecs.specs.Codecs.{charge_codecs};
 ghost use Rattle.pair_command.specs.Files.{plans_told};
+ghost use Rattle.pair_command.specs.Generating.{GenerateLeaves};
 ghost use Rattle.charge_run.specs.Cars.{CarLeaves};
 ghost use Rattle.file_commands.specs.Basics.{BasicLeaves};
 ghost use Rattle.migrate_command.specs.Leaving.{MigrateLeaves};
@@ -33,7 +34,7 @@ use crate::driving::drive;
 use crate::encode::encode;
 use crate::replaying::replay_trace;
 use crate::serving::serve;
-use crate::talking::talk_pair;
+use crate::talking::{generate_sessions, talk_pair};
 use charge_world::{Sink, Source, Wire};
 use command_status::{Status, tell_fault};
 use command_words::{Command, WordList, WordsFault, read_words};
@@ -57,6 +58,9 @@ use std::alloc::Global;
 /// - `talk STATION CAR SEED` lets the station of the plan in one file, whose first post is used alone, and the car of the plan in another, whose ports are
 ///   ignored, talk over a pipe in memory, and prints `exchanges N cause C`: how many replies the car heard, and the number of the cause that ended it, 0
 ///   without one. The seed, a number below 2^64, says in which pieces the bytes come.
+/// - `generate SEED COUNT` lets so many sessions of the station without a file, 1 to 1,000, follow one another over a pipe in memory, each with a car that is
+///   drawn behind the seed, and prints `sessions N replies R bytes B closed C opened O`: how many sessions, how many replies of the station, of how many bytes
+///   with the headers of their frames, and how many orders to close and to open its charger took.
 /// - `decode DIALECT HEX` prints the tree text of the message that a payload spells. DIALECT is `app` for the negotiation, `iso` for
 ///   ISO 15118-2 or `din` for DIN SPEC 70121.
 /// - `encode DIALECT TEXT` prints the payload that is written for the message whose tree text this is, in hexadecimal digits.
@@ -96,6 +100,9 @@ use std::alloc::Global;
 /// `talk`: `Done` where the line was written, which is that of the run of the pipe that both plans and the seed determine (`IsPipeRun` of `pipe_spec`).
 /// Before that come `NoMemory`, `SourceFault` where a file can't be read, and `Plan` where the first is no plan of a station or the second none of a car.
 /// The trace and the wire stay as they were.
+///
+/// `generate`: `Done` where the line was written, which tells the counts of the one history of so many sessions that the seed generates (`IsGenerated` of
+/// `pair_plans`). Before that comes `NoMemory`. The files, the trace and the wire stay as they were.
 ///
 /// `decode`: `Input` where the text spells no bytes or the payload no message. `encode`: `Input` where no payload is written for the
 /// text. Neither uses a file, the trace or the wire.
@@ -171,6 +178,11 @@ pub fn run<F: Source, K: Sink, J: Sink, W: Wire>(
         (plans_told (F.holds files.old station) (F.holds files.old car) (F.faults files.old) (F.faults files.new))
         (sink_told (K.taken out.old) (K.faults out.old)) (sink_told (K.taken out.new) (K.faults out.new)) }
 
+    // `generate`: the line tells the counts of the sessions that the seed generates.
+    ensures generate { (seed : ℕ) (count : ℕ) → IsGenerate words.now seed count
+        → GenerateLeaves site_codecs car_codecs seed count result
+        (sink_told (K.taken out.old) (K.faults out.old)) (sink_told (K.taken out.new) (K.faults out.new)) }
+
     // `basic`: the lines are those of the orders of a run over the script in the file, or its fault is told.
     ensures basic { (name : List ℕ) → IsBasic words.now name
         → BasicLeaves result (file_told (F.holds files.old name) (F.left files.new) (F.faults files.old) (F.faults files.new))
@@ -232,7 +244,7 @@ pub fn run<F: Source, K: Sink, J: Sink, W: Wire>(
     ensures unbegun { IsUnbegun result → (wire.new ≡ wire.old) × (trace.new ≡ trace.old) }
     ensures no_memory { result ≡ Status.NoMemory → (K.taken out.new ≡ K.taken out.old) × (K.faults out.new ≡ K.faults out.old) }
 
-    // Only `station` and `car` use the wire, only they, `replay` and `migrate` the trace, and `decode`,
+    // Only `station` and `car` use the wire, only they, `replay` and `migrate` the trace, and `generate`, `decode`,
     // `encode` and `pick` alone read no file; no file changes.
     ensures alone { (UsesWire words.now → ⊥) → wire.new ≡ wire.old }
     ensures untraced { (WritesTrace words.now → ⊥) → trace.new ≡ trace.old }
@@ -270,6 +282,7 @@ pub fn run<F: Source, K: Sink, J: Sink, W: Wire>(
         Ok(Command::Talk { station, car, seed }) => talk_pair(
             alloc, station, car, seed, files, out,
         ),
+        Ok(Command::Generate { seed, count }) => generate_sessions(alloc, seed, count, out),
         Ok(Command::Decode { dialect, hex }) => decode(alloc, dialect, hex, out),
         Ok(Command::Encode { dialect, text }) => encode(alloc, dialect, text, out),
         Ok(Command::Basic { script }) => basic(alloc, script, files, out),

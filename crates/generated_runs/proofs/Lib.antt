@@ -1,3 +1,3 @@
 mod Plans
 mod Between
-mod Generated
+pub mod Generated

@@ -3,3 +3,4 @@ pub mod Decided
 pub mod Leaving
 pub mod Complete
 pub mod Lines
+pub mod Sessions

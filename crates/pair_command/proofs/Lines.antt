@@ -1,13 +1,15 @@
--- The line of a session over the pipe.
+-- The line of a session over the pipe, and that of sessions that are generated.
 use Rattle.std.proofs.Common.{◌≡◌, ℕ, List, ap, ◌∙◌, IfOk, Result, Ok, Err}
 use Rattle.session_words.specs.declared.plan.CarPlan.{CarPlan}
 use Rattle.session_words.specs.declared.plan.SitePlan.{SitePlan}
 use Rattle.post_spec.specs.Codecs.{Codecs}
 use Rattle.car_spec.specs.Codecs as car
-use Rattle.pair_plans.specs.Lines.{talk_line}
-use Rattle.pair_talk.specs.Counts.{exchanges}
+use Rattle.pair_plans.specs.Lines.{generated_line, talk_line}
+use Rattle.pair_talk.specs.Counts.{Counts, exchanges}
+use Rattle.pair_talk.specs.Generating.{AreCounts}
 use Rattle.pair_talk.specs.Reports.{IsTalk}
 use Rattle.pair_talk.specs.declared.talking.TalkReport.{TalkReport}
+use Rattle.pair_command.specs.Generating.{IsGeneratedLine}
 use Rattle.pair_command.specs.Talking.{IsToldLine}
 
 -- a line that tells the report of a session is that of the session
@@ -22,3 +24,13 @@ told_line c cc site plan seed report bytes (Ok line) is told = record {
   well = is.well;
 }
 told_line c cc site plan seed report bytes (Err fault) is told = told
+
+-- a line that tells what was counted of sessions is that of these sessions
+pub counted_line : {A E : Type 0} (c : Codecs) (cc : car.Codecs) (seed count : ℕ) (counted : Counts) (bytes : A → List ℕ) (made : Result A E) → AreCounts c cc seed count counted
+    → IfOk made (λ line. bytes line ≡ generated_line count counted) → IfOk made (λ line. IsGeneratedLine c cc seed count (bytes line))
+counted_line c cc seed count counted bytes (Ok line) are told = record {
+  history = are.history;
+  generated = are.generated;
+  line_is = told ∙ ap (generated_line count) are.result_is;
+}
+counted_line c cc seed count counted bytes (Err fault) are told = told

@@ -1,9 +1,9 @@
 //! Vectors of the commands of one file, and of pairs that talk.
 //!
-//! A vector is a line `=== offer MOMENT`, `=== schedule HEX`, `=== services ID`, `=== pick HEX`, `=== basic`, `=== migrate` or `=== talk SEED`, the text of the
-//! calendar, of the need, of the catalogue, what is wanted, alone on a line, the text of the script, of the trace or of the station's plan and behind a line
-//! `+++` of the car's, a line `--- STATUS`, what is printed, and the trace that is written. Each is run once more with an output that fails, which leaves it
-//! empty, and with a trace that takes two pieces alone.
+//! A vector is a line `=== offer MOMENT`, `=== schedule HEX`, `=== services ID`, `=== pick HEX`, `=== basic`, `=== migrate`, `=== talk SEED` or
+//! `=== generate SEED COUNT`, the text of the calendar, of the need, of the catalogue, what is wanted, alone on a line, the text of the script, of the trace,
+//! of the station's plan and behind a line `+++` of the car's, or none, a line `--- STATUS`, what is printed, and the trace that is written. Each is run once
+//! more with an output that fails, which leaves it empty, and with a trace that takes two pieces alone.
 
 use crate::counts::Counts;
 use crate::fronts::is_front;
@@ -104,6 +104,10 @@ fn answered(alloc: Global, words: &str, text: &str, failing: Failing) -> Result<
             let files = [("station", station.as_bytes()), ("car", car.as_bytes())];
             let words = [command, "station", "car", word];
             left_by(alloc, &words, &files, failing, &mut wire)?
+        }
+        "generate" => {
+            let (seed, count) = word.split_once(" ").context("a seed without a count")?;
+            left_by(alloc, &[command, seed, count], &files, failing, &mut wire)?
         }
         "basic" | "migrate" => left_by(alloc, &[command, "file"], &files, failing, &mut wire)?,
         _ => left_by(alloc, &[command, "file", word], &files, failing, &mut wire)?,

@@ -1,8 +1,8 @@
 use Rattle.std.proofs.Common.{inl, inr, [], ◌∷◌}
-use Rattle.command_words.specs.Command.{replay, audit, talk, decode, encode, basic, migrate, offer, schedule, services, pick}
+use Rattle.command_words.specs.Command.{replay, audit, talk, generate, decode, encode, basic, migrate, offer, schedule, services, pick}
 use Rattle.pair_codecs.proofs.Fitting.{are_fit}
-use Rattle.charge_run.proofs.Answered.{only_refused, only_unscanned, same_decoded, same_encoded, same_offered, same_owned, same_picked, same_served, same_talked, wants_nothing}
-use Rattle.charge_run.proofs.WordLists.{one_audit, one_decode, one_encode, one_offer, one_pick, one_services, one_talk}
+use Rattle.charge_run.proofs.Answered.{only_refused, only_unscanned, same_decoded, same_encoded, same_generated, same_offered, same_owned, same_picked, same_served, same_talked, wants_nothing}
+use Rattle.charge_run.proofs.WordLists.{one_audit, one_decode, one_encode, one_generate, one_offer, one_pick, one_services, one_talk, some_sessions}
 use Rattle.charge_run.proofs.Complete.{unfailed}
 use Rattle.command_status.specs.Told.{sink_told, TellsAlways}
 use Rattle.command_status.specs.declared.status.Status.TheVariants as status
@@ -65,6 +65,22 @@ pub returns-in-Ok-Talk-clause-apart : goal.returns-in-Ok-Talk-clause-apart
 returns-in-Ok-Talk-clause-apart g c =
     let told = (rw c.in-Ok-Talk.field-0-is at c.in-Ok-Talk.ensures.command) in
     λ none. absurd (none (inl (inr (inr (inr (inr (inr (inr (_, _, _, told)))))))))
+
+pub in-Ok-Generate-generate_sessions-requires-clause-some : goal.in-Ok-Generate-generate_sessions-requires-clause-some
+in-Ok-Generate-generate_sessions-requires-clause-some g c =
+    let told = (rw c.in-Ok-Generate.field-0-is at c.in-Ok-Generate.ensures.command) in
+    (some_sessions c.args.words.now c.in-Ok-Generate.seed c.in-Ok-Generate.count told).0
+
+pub in-Ok-Generate-generate_sessions-requires-clause-few : goal.in-Ok-Generate-generate_sessions-requires-clause-few
+in-Ok-Generate-generate_sessions-requires-clause-few g c =
+    let told = (rw c.in-Ok-Generate.field-0-is at c.in-Ok-Generate.ensures.command) in
+    (some_sessions c.args.words.now c.in-Ok-Generate.seed c.in-Ok-Generate.count told).1
+
+pub returns-in-Ok-Generate-clause-generate : goal.returns-in-Ok-Generate-clause-generate
+returns-in-Ok-Generate-clause-generate g c seed count is =
+    let told = (rw c.in-Ok-Generate.field-0-is at c.in-Ok-Generate.ensures.command) in
+    same_generated c.in-Ok-Generate.seed seed c.in-Ok-Generate.count count
+    (one_generate c.args.words.now c.in-Ok-Generate.seed seed c.in-Ok-Generate.count count told is) _ _ _ c.generate_sessions.ensures.leaves
 
 pub returns-in-Ok-Basic-clause-apart : goal.returns-in-Ok-Basic-clause-apart
 returns-in-Ok-Basic-clause-apart g c =
@@ -141,6 +157,11 @@ returns-in-Err-NoCommand-clause-talk g c station car seed is =
     let none = (rw c.in-Err-NoCommand.field-0-is at c.in-Err-NoCommand.ensures.fault) in
     absurd (none (talk station car seed) is)
 
+pub returns-in-Err-NoCommand-clause-generate : goal.returns-in-Err-NoCommand-clause-generate
+returns-in-Err-NoCommand-clause-generate g c seed count is =
+    let none = (rw c.in-Err-NoCommand.field-0-is at c.in-Err-NoCommand.ensures.fault) in
+    absurd (none (generate seed count) is)
+
 pub returns-in-Err-NoCommand-clause-basic : goal.returns-in-Err-NoCommand-clause-basic
 returns-in-Err-NoCommand-clause-basic g c name is =
     let none = (rw c.in-Err-NoCommand.field-0-is at c.in-Err-NoCommand.ensures.fault) in
@@ -207,6 +228,9 @@ returns-in-Ok-Audit-clause-complete g c = λ none. unfailed (status.Done ∷ sta
 
 pub returns-in-Ok-Talk-clause-complete : goal.returns-in-Ok-Talk-clause-complete
 returns-in-Ok-Talk-clause-complete g c = λ none. unfailed (status.Done ∷ status.NoMemory ∷ status.Plan ∷ []) c.talk_pair.result (tt, (tt, (tt, tt))) (c.talk_pair.ensures.complete (none.0, (none.1.0, tt)))
+
+pub returns-in-Ok-Generate-clause-complete : goal.returns-in-Ok-Generate-clause-complete
+returns-in-Ok-Generate-clause-complete g c = λ none. unfailed (status.Done ∷ status.NoMemory ∷ []) c.generate_sessions.result (tt, (tt, tt)) (c.generate_sessions.ensures.complete (none.1.0, tt))
 
 pub returns-in-Ok-Decode-clause-complete : goal.returns-in-Ok-Decode-clause-complete
 returns-in-Ok-Decode-clause-complete g c = λ none. unfailed (status.Done ∷ status.NoMemory ∷ status.Input ∷ []) c.decode.result (tt, (tt, (tt, tt))) (c.decode.ensures.complete (none.1.0, tt))
