@@ -159,6 +159,9 @@ fn say_values<E: Eprint>(rt: &E, usage: &Usage, words: &WordList) -> io::Result<
             "`{word}` begins with a dash, and there are no options. A file of that name is `./{word}`."
         );
     }
+    if usage.values == "SEED COUNT" {
+        return say_seed_or_count(rt, words.get(1).unwrap_or(""), words.get(2).unwrap_or(""));
+    }
     match (words.get(1), words.get(2), words.get(3)) {
         (Some(dialect), ..) if usage.values.starts_with("DIALECT") => {
             eprintln!(rt; "`{dialect}` is no DIALECT: write app, iso or din.")
@@ -170,17 +173,21 @@ fn say_values<E: Eprint>(rt: &E, usage: &Usage, words: &WordList) -> io::Result<
             "`{id}` is no ID: write the service's identifier, 0 to 65535, in digits without a zero in front."
         ),
         (_, _, Some(seed)) if usage.values.ends_with("SEED") => say_no_seed(rt, seed),
-        (Some(seed), ..) if usage.values.starts_with("SEED") && !is_seed(seed) => {
-            say_no_seed(rt, seed)
-        }
-        (_, Some(count), _) if usage.values.ends_with("COUNT") => eprintln!(rt;
-            "`{count}` is no COUNT: write how many sessions, 1 to 1000, in digits without a zero in front."
-        ),
         (Some(want), ..) if usage.values.starts_with("WANT") => eprintln!(rt;
             "`{want}` is no WANT: write 1 to 16 pairs NAME=VALUE with `;` between them, a VALUE being true, false, a number of 32 bits, or at most 64 characters in double quotes."
         ),
         _ => rt.eprintln("The words are no command."),
     }
+}
+
+/// Says what is wrong where the first isn't a seed or the second isn't a count.
+fn say_seed_or_count<E: Eprint>(rt: &E, seed: &str, count: &str) -> io::Result<()> {
+    if !is_seed(seed) {
+        return say_no_seed(rt, seed);
+    }
+    eprintln!(rt;
+        "`{count}` is no COUNT: write how many sessions, 1 to 1000, in digits without a zero in front."
+    )
 }
 
 /// Whether a word is a number of 64 bits.
