@@ -1,4 +1,4 @@
-use Rattle.std.proofs.Common.{List, ℕ, refl, subst, ◌∙◌}
+use Rattle.std.proofs.Common.{List, ℕ, refl, inl, inr, subst, ◌∙◌}
 use Rattle.std.specs.Prelude.{string_bytes}
 use Rattle.post_spec.specs.Codecs.{codecs}
 use Rattle.car_spec.specs.Codecs as car_codecs
@@ -29,4 +29,4 @@ pub returns-in-Ok-clause-complete : goal.returns-in-Ok-clause-complete
 returns-in-Ok-clause-complete g c = sessions.complete _ _ _ _ (returns-in-Ok-clause-leaves g c).leaves
 
 pub returns-in-Err-clause-complete : goal.returns-in-Err-clause-complete
-returns-in-Err-clause-complete g c = sessions.complete _ _ _ _ (returns-in-Err-clause-leaves g c).leaves
+returns-in-Err-clause-complete g c none = inr (inl refl)
