@@ -55,3 +55,4 @@ pub mod Spoken
 pub mod Repeats
 pub mod Early
 pub mod Quick
+pub mod Counting

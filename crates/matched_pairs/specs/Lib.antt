@@ -4,6 +4,7 @@ pub mod Moves
 pub mod Acts
 pub mod Hearings
 pub mod Requests
+pub mod Repeats
 pub mod Courses
 pub mod Stopping
 pub mod Causes
@@ -20,3 +21,4 @@ pub mod Steps
 pub mod Told
 pub mod Pending
 pub mod Quick
+pub mod Few
