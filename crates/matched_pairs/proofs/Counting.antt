@@ -1,6 +1,5 @@
 -- The exchanges of a session are its words, and those that are left go down but for what is asked again.
-use Rattle.std.proofs.Common.{◌≡◌, ℕ, suc, ◌+◌, ◌≤◌, Bool, true, false, ◌&&◌, if◌then◌else◌, List, [], ◌∷◌, length, Option, Some, None, refl, ap, sym, subst, ◌∙◌, arith}
-use Rattle.charge_world.specs.declared.offer.Dialect.{Dialect}
+use Rattle.std.proofs.Common.{◌≡◌, ℕ, suc, ◌+◌, ◌≤◌, ◌&&◌, List, [], ◌∷◌, length, Option, Some, None, refl, arith}
 use Rattle.session_words.specs.declared.plan.CarPlan.{CarPlan}
 use Rattle.post_spec.specs.Codecs as post
 use Rattle.station_spec.specs.Report.{one_if}
@@ -11,7 +10,6 @@ use Rattle.car_spec.specs.Codecs as car
 use Rattle.pipe_spec.specs.Counts.{exchanges}
 use Rattle.pipe_spec.specs.Histories.{Happening, CarComes, ChargerTells, StationHears, CarHears, TimePasses, StationDoes, CarReads, CarDoes, CarGoes, NumberIsDrawn, joined, token}
 use Rattle.pipe_spec.specs.Turns.{Station, car_state}
-use Rattle.pair_words.specs.Exchanges.{Outside}
 use Rattle.pair_words.specs.Laws.{is_repeated, repeats, left_behind}
 use Rattle.pair_words.specs.Timed.{is_pre_charging}
 use Rattle.pair_words.proofs.Sessions.{they_end}

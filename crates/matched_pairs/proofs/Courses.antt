@@ -80,7 +80,7 @@ talks_stage c cc post_plan plan b s k ts tc (IsToReply facts later shown fits se
 talks_stage c cc post_plan plan b s k ts tc (Closes facts shown fits last l w a none) = let still : IsStill plan k a.session = a.still in ap stage_in still.session_is ∙ a.stage_is
 talks_stage c cc post_plan plan b s k ts tc (Replies facts later shown payload unread fits encodes goes a e comes) = let still : IsStill plan k a.session = a.still in ap stage_in still.session_is ∙ a.stage_is
 
-begins_stage : (c : post.Codecs) (cc : car.Codecs) (post_plan : PostPlan) (plan : CarPlan) (s : State) (k : car_states.State) (ts tc : List ℕ) → Begins c cc post_plan plan s k ts tc → stage_in k.session ≡ None
+pub begins_stage : (c : post.Codecs) (cc : car.Codecs) (post_plan : PostPlan) (plan : CarPlan) (s : State) (k : car_states.State) (ts tc : List ℕ) → Begins c cc post_plan plan s k ts tc → stage_in k.session ≡ None
 begins_stage c cc post_plan plan s k ts tc (IsToOffer come say none) = ap stage_in say.session_is ∙ say.stage_is
 begins_stage c cc post_plan plan s k ts tc (Offered request offers come a comes e) = let still : IsStill plan k a.session = a.still in ap stage_in still.session_is ∙ a.stage_is
 begins_stage c cc post_plan plan s k ts tc (Offers request unread offers l a comes e) = let still : IsStill plan k a.session = a.still in ap stage_in still.session_is ∙ a.stage_is

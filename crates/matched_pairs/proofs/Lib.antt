@@ -56,3 +56,5 @@ pub mod Repeats
 pub mod Early
 pub mod Quick
 pub mod Counting
+pub mod Due
+pub mod Few

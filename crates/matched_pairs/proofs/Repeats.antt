@@ -194,7 +194,7 @@ told_by None c cs st plan session act s i = tt
 told_by (Some r) c cs st plan session act s i = words_are_told c cs st plan (front plan session) r act s.pair (first_of c cs st plan session s.within s.run) s.short s.undisturbed i
 
 -- what is known of what came before
-shorter : (e : Happening) (c : post.Codecs) (cs : car.Codecs) (st : Station) (plan : CarPlan) (session : List Happening) → Seen c cs st plan (e ∷ session) → Seen c cs st plan session
+pub shorter : (e : Happening) (c : post.Codecs) (cs : car.Codecs) (st : Station) (plan : CarPlan) (session : List Happening) → Seen c cs st plan (e ∷ session) → Seen c cs st plan session
 shorter e c cs st plan session s =
     let w = s.within in
     let r = s.run in

@@ -15,13 +15,14 @@
 //! `words_are_told` (a post reads a word only behind a turn that brought bytes to an end, so that nothing of its charger was due); `repeats_are_of_now` (a car
 //! that reads a reply by which it asks the same once more reads it at the moment at which the post judged the request, and the step wasn't done then);
 //! `quick_steps_are_kept` (so authorization, the parameters and the cable check are done early: none of their deadlines is reached);
-//! `exchanges_are_counted` (the exchanges are 21 and the charging replies at most, but for those that are asked again).
+//! `exchanges_are_counted` (the exchanges are 21 and the charging replies at most, but for those that are asked again) and
+//! `quick_steps_are_few` (those three steps are asked again three times at most in all).
 
 ghost use Rattle.car_spec.specs.Codecs as car;
 ghost use Rattle.matched_pairs.specs.Bounds.{MomentsAreBounded};
 ghost use Rattle.matched_pairs.specs.Clocks.{ClocksAreRight};
 ghost use Rattle.matched_pairs.specs.Closing.{ClosesAreHeard};
-ghost use Rattle.matched_pairs.specs.Few.{ExchangesAreCounted};
+ghost use Rattle.matched_pairs.specs.Few.{ExchangesAreCounted, QuickStepsAreFew};
 ghost use Rattle.matched_pairs.specs.Limits.{SessionsAreUndisturbed};
 ghost use Rattle.matched_pairs.specs.Paces.{SessionsKeepPace};
 ghost use Rattle.matched_pairs.specs.Pauses.{TimePassesInPauses};
@@ -109,4 +110,9 @@ pub fn quick_steps_are_kept<C: Coded, D: CarCoded>()
 /// But for what is asked again, 21 exchanges and the charging replies are enough.
 pub fn exchanges_are_counted<C: Coded, D: CarCoded>()
     ensures { ExchangesAreCounted (post.codecs C.negotiates C.reads C.encodes) (car.codecs D.offers D.responds D.reads D.encodes) }
+{}
+
+/// Authorization, the parameters and the cable check are asked again three times at most in all.
+pub fn quick_steps_are_few<C: Coded, D: CarCoded>()
+    ensures { QuickStepsAreFew (post.codecs C.negotiates C.reads C.encodes) (car.codecs D.offers D.responds D.reads D.encodes) }
 {}
