@@ -58,3 +58,4 @@ pub mod Quick
 pub mod Counting
 pub mod Due
 pub mod Few
+pub mod Kept
