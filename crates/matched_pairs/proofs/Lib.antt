@@ -12,7 +12,6 @@ pub mod PostsHear
 pub mod CarsHear
 pub mod Requested
 pub mod Keeps
-pub mod RepeatsRead
 pub mod Courses
 pub mod Stopping
 pub mod Ends
@@ -66,13 +65,14 @@ pub mod Spoken
 pub mod Repeats
 pub mod Early
 pub mod Quick
+pub mod Counting
+pub mod Due
+pub mod Kept
 pub mod Said
 pub mod Pieces
 pub mod Tells
 pub mod Lasts
+pub mod Counted
 pub mod Few
-pub mod FewExchanges
-pub mod Steady
 pub mod WellEnded
 pub mod PipeRuns
-pub mod AllSteps

@@ -166,7 +166,7 @@ told_part : (o : Option CarStage) (plan : CarPlan) (s : State) (session : Sessio
 told_part None plan s session r = refl
 told_part (Some stage) plan s session r = replied_part (reply_cause plan stage _ r) plan s session stage r
 
-word_part : (w : Judged) (plan : CarPlan) (s : State) (session : Session) → (judged plan s session w).part ≡ Wording
+pub word_part : (w : Judged) (plan : CarPlan) (s : State) (session : Session) → (judged plan s session w).part ≡ Wording
 word_part (Chosen None) plan s session = refl
 word_part (Chosen (Some d)) plan s session = refl
 word_part (Told r) plan s session = told_part session.stage plan s session r

@@ -117,7 +117,7 @@ passes_by now s k p (Closes r) = record {
 abbrev pub AsksEarly : CarPlan → ℕ → car_states.Session → Reply → Type 0
 AsksEarly plan now y r = (stage : CarStage) → y.stage ≡ Some stage → is_repeated stage.phase (stage_behind plan stage r y.stop).phase ≡ true → is_quick stage.phase ≡ true → now < 300
 
-again_quick : (a b : CarPhase) → is_again a b ≡ true → is_quick b ≡ true → (is_repeated a b ≡ true) × (is_quick a ≡ true)
+pub again_quick : (a b : CarPhase) → is_again a b ≡ true → is_quick b ≡ true → (is_repeated a b ≡ true) × (is_quick a ≡ true)
 again_quick phase.Authorizing phase.Authorizing e q = (refl, refl)
 again_quick phase.Asking phase.Asking e q = (refl, refl)
 again_quick phase.CableChecking phase.CableChecking e q = (refl, refl)
@@ -171,7 +171,7 @@ reads_early : (o : Option car_states.Session) (plan : CarPlan) (now : ℕ) (s : 
 reads_early None plan now s w e clock pace early k = subst (EarlyIn now) e tt
 reads_early (Some y) plan now s w e clock pace early k = word_early w plan now s y clock pace (early y refl) k
 
-asks_early : (w : car.Judged) (c : post.Codecs) (cs : car.Codecs) (st : Station) (plan : CarPlan) (session : List Happening) (y : car_states.Session) → 1 ≤ st.limit → Seen c cs st plan session
+pub asks_early : (w : car.Judged) (c : post.Codecs) (cs : car.Codecs) (st : Station) (plan : CarPlan) (session : List Happening) (y : car_states.Session) → 1 ≤ st.limit → Seen c cs st plan session
     → car_next.MayRead cs (joined plan) (car_state (joined plan) (front plan session)) w → (car_state (joined plan) (front plan session)).session ≡ Some y → ReadsEarly w (joined plan) (moment (front plan session)) y
 asks_early (car.Told r) c cs st plan session y some s i e = λ stage g again q.
     unready_early c cs st (joined plan) plan session (moment (front plan session)) stage.phase s.within s.run (repeats_now c cs st plan session r y stage some s i e g again) q

@@ -5,7 +5,6 @@ use Rattle.session_words.specs.declared.cause.EndCause.{EndCause}
 use Rattle.session_words.specs.declared.cause.EndCause.TheVariants as cause
 use Rattle.session_words.specs.declared.plan.CarPlan.{CarPlan}
 use Rattle.session_words.specs.declared.plan.PostPlan.{PostPlan}
-use Rattle.session_words.specs.declared.word.Reply.{Reply}
 use Rattle.session_rules.specs.declared.stage.Stage.{Stage}
 use Rattle.session_rules.specs.Stages.{is_waiting}
 use Rattle.post_spec.specs.Codecs as post
@@ -239,59 +238,61 @@ pub says_none : (words : Words) (c : post.Codecs) (cs : car.Codecs) (post_plan :
 says_none NoneYet c cs post_plan plan s k ts tc spoken bytes t i = begins_says c cs post_plan plan s k ts tc (car_steps.Say spoken bytes) t i
 says_none (Read dialect xs) c cs post_plan plan s k ts tc spoken bytes t i = says_by (has_ended post_plan plan token dialect xs) c cs post_plan plan _ s k ts tc spoken bytes t.1 i
 
--- ---- a reply that is read came
+-- ---- a word that is read came
 
-pub record HasCome (cs : car.Codecs) (plan : CarPlan) (y : car_states.Session) (way : List ℕ) (r : Reply) : Type 0 where
+pub record HasCome (cs : car.Codecs) (plan : CarPlan) (y : car_states.Session) (way : List ℕ) (w : car.Judged) : Type 0 where
   pub payload : List ℕ
   pub sent : ℕ
   pub sent_is : y.moments.sent ≡ Some sent
   pub comes : Comes payload y.unread way
-  pub judged : car.Judges cs plan.dialects.items (dialect_of y.stage) payload (car.Told r)
+  pub judged : car.Judges cs plan.dialects.items (dialect_of y.stage) payload w
   pub stop : y.stop ≡ false
+  pub again : y.again ≡ None
 
-comes_front : (c : post.Codecs) (cs : car.Codecs) (plan : CarPlan) (k : car_states.State) (stage : Option CarStage) (payload unread way : List ℕ) (r : Reply) (y : car_states.Session) → Awaits plan k stage unread
-    → Comes payload unread way → Front payload unread way → k.session ≡ Some y → MayRead cs plan k (car.Told r) → HasCome cs plan y way r
-comes_front c cs plan k stage payload unread way r y a comes (OnItsWay w) e i = absurd (awaits_reads cs plan k stage unread (car.Told r) a w i)
-comes_front c cs plan k stage payload unread way r y a comes (Whole u n) e i =
+comes_front : (c : post.Codecs) (cs : car.Codecs) (plan : CarPlan) (k : car_states.State) (stage : Option CarStage) (payload unread way : List ℕ) (w : car.Judged) (y : car_states.Session) → Awaits plan k stage unread
+    → Comes payload unread way → Front payload unread way → k.session ≡ Some y → MayRead cs plan k w → HasCome cs plan y way w
+comes_front c cs plan k stage payload unread way w y a comes (OnItsWay f) e i = absurd (awaits_reads cs plan k stage unread w a f i)
+comes_front c cs plan k stage payload unread way w y a comes (Whole u n) e i =
     let still : cars.IsStill plan k a.session = a.still in
-    subst (λ (z : car_states.Session). HasCome cs plan z way r) (same_car k a.session y still.session_is e) (record {
+    subst (λ (z : car_states.Session). HasCome cs plan z way w) (same_car k a.session y still.session_is e) (record {
       payload = payload;
       sent = a.sent;
       sent_is = a.sent_is;
       comes = subst (λ (l : List ℕ). Comes payload l way) (sym a.unread_is) comes;
-      judged = cars_read_words cs plan k a.session payload (car.Told r) a.still (a.unread_is ∙ u) comes.short i;
+      judged = cars_read_words cs plan k a.session payload w a.still (a.unread_is ∙ u) comes.short i;
       stop = a.stop;
+      again = a.again;
     })
 
-begins_come : (c : post.Codecs) (cs : car.Codecs) (post_plan : PostPlan) (plan : CarPlan) (s : State) (k : car_states.State) (ts tc : List ℕ) (y : car_states.Session) (r : Reply) → Begins c cs post_plan plan s k ts tc
-    → k.session ≡ Some y → MayRead cs plan k (car.Told r) → HasCome cs plan y tc r
-begins_come c cs post_plan plan s k ts tc y r (IsToOffer come say none) e i = absurd (say_reads cs plan k _ None _ (car.Told r) say i)
-begins_come c cs post_plan plan s k ts tc y r (Offered request offers come a comes n) e i = absurd (awaits_reads cs plan k _ [] (car.Told r) a empty_waits i)
-begins_come c cs post_plan plan s k ts tc y r (Offers request unread offers l a comes n) e i = absurd (awaits_reads cs plan k _ [] (car.Told r) a empty_waits i)
-begins_come c cs post_plan plan s k ts tc y r (Responded request unread begun l a n comes) e i =
-    comes_front c cs plan k None begun.response unread tc r y a comes (front begun.response unread tc comes) e i
+begins_come : (c : post.Codecs) (cs : car.Codecs) (post_plan : PostPlan) (plan : CarPlan) (s : State) (k : car_states.State) (ts tc : List ℕ) (y : car_states.Session) (w : car.Judged) → Begins c cs post_plan plan s k ts tc
+    → k.session ≡ Some y → MayRead cs plan k w → HasCome cs plan y tc w
+begins_come c cs post_plan plan s k ts tc y w (IsToOffer come say none) e i = absurd (say_reads cs plan k _ None _ w say i)
+begins_come c cs post_plan plan s k ts tc y w (Offered request offers come a comes n) e i = absurd (awaits_reads cs plan k _ [] w a empty_waits i)
+begins_come c cs post_plan plan s k ts tc y w (Offers request unread offers l a comes n) e i = absurd (awaits_reads cs plan k _ [] w a empty_waits i)
+begins_come c cs post_plan plan s k ts tc y w (Responded request unread begun l a n comes) e i =
+    comes_front c cs plan k None begun.response unread tc w y a comes (front begun.response unread tc comes) e i
 
-talks_come : (c : post.Codecs) (cs : car.Codecs) (post_plan : PostPlan) (plan : CarPlan) (b : Both) (s : State) (k : car_states.State) (ts tc : List ℕ) (y : car_states.Session) (r : Reply)
-    → Talks c cs post_plan plan b s k ts tc → k.session ≡ Some y → MayRead cs plan k (car.Told r) → HasCome cs plan y tc r
-talks_come c cs post_plan plan b s k ts tc y r (IsToAsk order l say none) e i = absurd (say_reads cs plan k _ order _ (car.Told r) say i)
-talks_come c cs post_plan plan b s k ts tc y r (Rests l a none) e i = absurd (pauses_reads cs plan k _ (car.Told r) a i)
-talks_come c cs post_plan plan b s k ts tc y r (Asks request unread encodes l a comes n) e i = absurd (awaits_reads cs plan k _ [] (car.Told r) a empty_waits i)
-talks_come c cs post_plan plan b s k ts tc y r (IsToReply facts later shown fits send a none) e i = absurd (awaits_reads cs plan k _ [] (car.Told r) a empty_waits i)
-talks_come c cs post_plan plan b s k ts tc y r (Closes facts shown fits last l waits a none) e i = absurd (awaits_reads cs plan k _ [] (car.Told r) a empty_waits i)
-talks_come c cs post_plan plan b s k ts tc y r (Replies facts later shown payload unread fits encodes goes a n comes) e i =
-    comes_front c cs plan k (Some b.car) payload unread tc r y a comes (front payload unread tc comes) e i
+talks_come : (c : post.Codecs) (cs : car.Codecs) (post_plan : PostPlan) (plan : CarPlan) (b : Both) (s : State) (k : car_states.State) (ts tc : List ℕ) (y : car_states.Session) (w : car.Judged)
+    → Talks c cs post_plan plan b s k ts tc → k.session ≡ Some y → MayRead cs plan k w → HasCome cs plan y tc w
+talks_come c cs post_plan plan b s k ts tc y w (IsToAsk order l say none) e i = absurd (say_reads cs plan k _ order _ w say i)
+talks_come c cs post_plan plan b s k ts tc y w (Rests l a none) e i = absurd (pauses_reads cs plan k _ w a i)
+talks_come c cs post_plan plan b s k ts tc y w (Asks request unread encodes l a comes n) e i = absurd (awaits_reads cs plan k _ [] w a empty_waits i)
+talks_come c cs post_plan plan b s k ts tc y w (IsToReply facts later shown fits send a none) e i = absurd (awaits_reads cs plan k _ [] w a empty_waits i)
+talks_come c cs post_plan plan b s k ts tc y w (Closes facts shown fits last l waits a none) e i = absurd (awaits_reads cs plan k _ [] w a empty_waits i)
+talks_come c cs post_plan plan b s k ts tc y w (Replies facts later shown payload unread fits encodes goes a n comes) e i =
+    comes_front c cs plan k (Some b.car) payload unread tc w y a comes (front payload unread tc comes) e i
 
-ends_come : (cs : car.Codecs) (post_plan : PostPlan) (plan : CarPlan) (s : State) (k : car_states.State) (ts tc : List ℕ) (y : car_states.Session) (r : Reply) → Ends post_plan plan s k ts tc
-    → MayRead cs plan k (car.Told r) → HasCome cs plan y tc r
-ends_come cs post_plan plan s k ts tc y r (IsToStop order g finish none) i = absurd (finish_reads cs plan k order cause.Stopped (car.Told r) finish i)
-ends_come cs post_plan plan s k ts tc y r (Stopped g ended none) i = absurd (ended_reads cs plan k (car.Told r) ended i)
+ends_come : (cs : car.Codecs) (post_plan : PostPlan) (plan : CarPlan) (s : State) (k : car_states.State) (ts tc : List ℕ) (y : car_states.Session) (w : car.Judged) → Ends post_plan plan s k ts tc
+    → MayRead cs plan k w → HasCome cs plan y tc w
+ends_come cs post_plan plan s k ts tc y w (IsToStop order g finish none) i = absurd (finish_reads cs plan k order cause.Stopped w finish i)
+ends_come cs post_plan plan s k ts tc y w (Stopped g ended none) i = absurd (ended_reads cs plan k w ended i)
 
-come_by : (x : Bool) (c : post.Codecs) (cs : car.Codecs) (post_plan : PostPlan) (plan : CarPlan) (b : Both) (s : State) (k : car_states.State) (ts tc : List ℕ) (y : car_states.Session) (r : Reply)
-    → TalksBy x c cs post_plan plan b s k ts tc → k.session ≡ Some y → MayRead cs plan k (car.Told r) → HasCome cs plan y tc r
-come_by true c cs post_plan plan b s k ts tc y r t e i = ends_come cs post_plan plan s k ts tc y r t i
-come_by false c cs post_plan plan b s k ts tc y r t e i = talks_come c cs post_plan plan b s k ts tc y r t e i
+come_by : (x : Bool) (c : post.Codecs) (cs : car.Codecs) (post_plan : PostPlan) (plan : CarPlan) (b : Both) (s : State) (k : car_states.State) (ts tc : List ℕ) (y : car_states.Session) (w : car.Judged)
+    → TalksBy x c cs post_plan plan b s k ts tc → k.session ≡ Some y → MayRead cs plan k w → HasCome cs plan y tc w
+come_by true c cs post_plan plan b s k ts tc y w t e i = ends_come cs post_plan plan s k ts tc y w t i
+come_by false c cs post_plan plan b s k ts tc y w t e i = talks_come c cs post_plan plan b s k ts tc y w t e i
 
-pub replies_come : (words : Words) (c : post.Codecs) (cs : car.Codecs) (post_plan : PostPlan) (plan : CarPlan) (s : State) (k : car_states.State) (ts tc : List ℕ) (y : car_states.Session) (r : Reply)
-    → IsIn c cs post_plan plan words s k ts tc → k.session ≡ Some y → MayRead cs plan k (car.Told r) → HasCome cs plan y tc r
-replies_come NoneYet c cs post_plan plan s k ts tc y r t e i = begins_come c cs post_plan plan s k ts tc y r t e i
-replies_come (Read dialect xs) c cs post_plan plan s k ts tc y r t e i = come_by (has_ended post_plan plan token dialect xs) c cs post_plan plan _ s k ts tc y r t.1 e i
+pub words_come : (words : Words) (c : post.Codecs) (cs : car.Codecs) (post_plan : PostPlan) (plan : CarPlan) (s : State) (k : car_states.State) (ts tc : List ℕ) (y : car_states.Session) (w : car.Judged)
+    → IsIn c cs post_plan plan words s k ts tc → k.session ≡ Some y → MayRead cs plan k w → HasCome cs plan y tc w
+words_come NoneYet c cs post_plan plan s k ts tc y w t e i = begins_come c cs post_plan plan s k ts tc y w t e i
+words_come (Read dialect xs) c cs post_plan plan s k ts tc y w t e i = come_by (has_ended post_plan plan token dialect xs) c cs post_plan plan _ s k ts tc y w t.1 e i

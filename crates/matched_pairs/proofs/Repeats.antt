@@ -55,7 +55,7 @@ use Rattle.matched_pairs.proofs.Pauses.{time_passes_in_pauses}
 use Rattle.matched_pairs.proofs.Told.{words_are_told}
 use Rattle.matched_pairs.proofs.Held.{Known}
 use Rattle.matched_pairs.proofs.Paces.{front, Seen, first_of, known}
-use Rattle.matched_pairs.proofs.Repeating.{same_stage, unstaged, repeats_same, NothingCame, none_came, awaits_came, replies_none, says_none, HasCome, replies_come}
+use Rattle.matched_pairs.proofs.Repeating.{same_stage, unstaged, repeats_same, NothingCame, none_came, awaits_came, replies_none, says_none, HasCome, words_come}
 use Rattle.matched_pairs.proofs.Unready.{lives, was_unready}
 use Rattle.matched_pairs.proofs.Spoken.{only, IsOfNow, IsSpokenNow, DecidesNow, ComesNow, none_comes, empty_comes, heard_replies, rest_replies, heard_comes, passes_comes, heard_by, acted_replies, IsSaid, sends_reply, sent_comes, reads_comes, says_comes}
 
@@ -194,7 +194,7 @@ told_by None c cs st plan session act s i = tt
 told_by (Some r) c cs st plan session act s i = words_are_told c cs st plan (front plan session) r act s.pair (first_of c cs st plan session s.within s.run) s.short s.undisturbed i
 
 -- what is known of what came before
-shorter : (e : Happening) (c : post.Codecs) (cs : car.Codecs) (st : Station) (plan : CarPlan) (session : List Happening) → Seen c cs st plan (e ∷ session) → Seen c cs st plan session
+pub shorter : (e : Happening) (c : post.Codecs) (cs : car.Codecs) (st : Station) (plan : CarPlan) (session : List Happening) → Seen c cs st plan (e ∷ session) → Seen c cs st plan session
 shorter e c cs st plan session s =
     let w = s.within in
     let r = s.run in
@@ -304,7 +304,7 @@ repeats_now c cs st plan session r y stage some s i e f again =
     let n : Known c cs st (joined plan) h = known c cs st plan session s in
     let well : GoesWell c cs st (joined plan) h = n.well in
     let k : Pends cs st (joined plan) h = pends_in c cs st plan session some s in
-    let come : HasCome cs (joined plan) y (to_car h) r = replies_come well.words c cs st.post (joined plan) (station_state st h) (car_state (joined plan) h) (to_station h) (to_car h) y r well.phase e i in
+    let come : HasCome cs (joined plan) y (to_car h) (car.Told r) = words_come well.words c cs st.post (joined plan) (station_state st h) (car_state (joined plan) h) (to_station h) (to_car h) y (car.Told r) well.phase e i in
     k.comes y e stage come.sent come.payload r f (repeats_same stage.phase (stage_behind (joined plan) stage r y.stop).phase again) come.sent_is come.comes
     (subst (λ (o : Option Dialect). car.Judges cs plan.dialects.items o come.payload (car.Told r)) (ap car_judging.dialect_of f) come.judged)
     (subst (λ (b : Bool). is_repeated stage.phase (stage_behind (joined plan) stage r b).phase ≡ true) come.stop again)

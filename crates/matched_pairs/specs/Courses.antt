@@ -16,7 +16,7 @@ use Rattle.pipe_laws.specs.PipePasts.{IsFirst}
 use Rattle.matched_pairs.specs.Phases.{Words, NoneYet, Read, IsIn}
 use Rattle.matched_pairs.specs.Moves.{IsPair, IfRead, SuitsWords}
 use Rattle.matched_pairs.specs.Hearings.{IsUndisturbed}
-use Rattle.matched_pairs.specs.Repeats.{repeats_read, repeats_of}
+use Rattle.matched_pairs.specs.Repeats.{repeats_in, is_any, repeats_among}
 
 -- where the session stands
 abbrev pub IsAt : post.Codecs → car.Codecs → Station → CarPlan → Words → List Happening → Type 0
@@ -50,7 +50,7 @@ pub record GoesWell (c : post.Codecs) (cc : car.Codecs) (st : Station) (plan : C
   pub phase : IsAt c cc st plan words h
   pub ok : AllByRecursion IsOk h
   pub exchanges_are : exchanges h ≡ count words
-  pub repeats_are : repeats_read plan h ≡ repeats_of st.post plan words
+  pub repeats_are : repeats_in is_any plan h ≡ repeats_among st.post plan words
 
 -- 65,544: the bytes of the longest frame that is read
 abbrev pub SessionsGoWell : post.Codecs → car.Codecs → Type 0

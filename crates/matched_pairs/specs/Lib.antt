@@ -23,5 +23,6 @@ pub mod Told
 pub mod Voltages
 pub mod Pending
 pub mod Quick
+pub mod Counted
 pub mod Few
 pub mod PipeRuns

@@ -1,41 +1,40 @@
--- ISO 15118-2:2014, 8.8.4 (a step that isn't done yet is asked for again): how often a car asked the same again, by what it read.
-use Rattle.std.specs.Prelude.{ℕ, ◌+◌, Bool, false, List, [], ◌∷◌, Option, Some, None}
+-- ISO 15118-2:2014, 8.8.4 (the order of the requests): how often a car asks the same again, by what happened and by the words that it read.
+use Rattle.std.specs.Prelude.{ℕ, ◌+◌, Bool, true, false, ◌&&◌, List, [], ◌∷◌, Option, Some, None}
 use Rattle.session_words.specs.declared.plan.CarPlan.{CarPlan}
 use Rattle.session_words.specs.declared.plan.PostPlan.{PostPlan}
 use Rattle.station_spec.specs.Report.{one_if}
 use Rattle.car_rules.specs.declared.stage.CarPhase.{CarPhase}
 use Rattle.car_rules.specs.declared.stage.CarStage.{CarStage}
 use Rattle.car_spec.specs.States.{Session}
-use Rattle.pipe_spec.specs.Histories.{Happening, CarReads, token}
+use Rattle.pipe_spec.specs.Histories.{Happening, CarComes, CarReads, token}
 use Rattle.pipe_spec.specs.Turns.{car_state}
 use Rattle.pair_words.specs.Laws.{is_repeated, repeats}
 use Rattle.matched_pairs.specs.Phases.{Words, NoneYet, Read}
 
--- the phase of a car, once a dialect is chosen
-abbrev pub phase_of : Option CarStage → Option CarPhase
-phase_of None = None
-phase_of (Some stage) = Some stage.phase
+-- the stage that a car has come to
+abbrev pub stage_in : Option Session → Option CarStage
+stage_in None = None
+stage_in (Some session) = session.stage
 
-abbrev pub phase_in : Option Session → Option CarPhase
-phase_in None = None
-phase_in (Some session) = phase_of session.stage
+-- from one stage to the other it asks the same again, in one of these steps
+abbrev pub asks_again : (CarPhase → Bool) → Option CarStage → Option CarStage → Bool
+asks_again is_step None to = false
+asks_again is_step (Some from) None = false
+asks_again is_step (Some from) (Some to) = is_step from.phase && is_repeated from.phase to.phase
 
-abbrev pub car_phase : CarPlan → List Happening → Option CarPhase
-car_phase plan h = phase_in (car_state plan h).session
+-- the words behind which the newest car asked the same again, in one of these steps
+abbrev pub repeats_in : (CarPhase → Bool) → CarPlan → List Happening → ℕ
+repeats_in is_step plan [] = 0
+repeats_in is_step plan (CarComes other ∷ h) = 0
+repeats_in is_step plan (CarReads word ∷ h) =
+    one_if (asks_again is_step (stage_in (car_state plan h).session) (stage_in (car_state plan (CarReads word ∷ h)).session)) + repeats_in is_step plan h
+repeats_in is_step plan (other ∷ h) = repeats_in is_step plan h
 
--- from one phase a step is asked for again
-abbrev pub is_asked_again : Option CarPhase → Option CarPhase → Bool
-is_asked_again None after = false
-is_asked_again (Some from) None = false
-is_asked_again (Some from) (Some to) = is_repeated from to
+-- whatever the step
+abbrev pub is_any : CarPhase → Bool
+is_any step = true
 
--- the words behind which the car asks the same again
-abbrev pub repeats_read : CarPlan → List Happening → ℕ
-repeats_read plan [] = 0
-repeats_read plan (CarReads judged ∷ h) = one_if (is_asked_again (car_phase plan h) (car_phase plan (CarReads judged ∷ h))) + repeats_read plan h
-repeats_read plan (other ∷ h) = repeats_read plan h
-
--- those of the exchanges that were read
-abbrev pub repeats_of : PostPlan → CarPlan → Words → ℕ
-repeats_of post_plan plan NoneYet = 0
-repeats_of post_plan plan (Read dialect xs) = repeats post_plan plan token dialect xs
+-- those of these words
+abbrev pub repeats_among : PostPlan → CarPlan → Words → ℕ
+repeats_among post_plan plan NoneYet = 0
+repeats_among post_plan plan (Read dialect xs) = repeats post_plan plan token dialect xs

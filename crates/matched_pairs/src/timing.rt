@@ -14,14 +14,17 @@
 //! connection and for a reply); `steady_sessions_end` (a session that is over then, but for the turns of a plan, has ended by SessionStop at both ends);
 //! `words_are_told` (a post reads a word only behind a turn that brought bytes to an end, so that nothing of its charger was due); `repeats_are_of_now` (a
 //! car that reads a reply by which it asks the same once more reads it at the moment at which the post judged the request, and the step wasn't done then);
-//! `quick_steps_are_kept` (so authorization, the parameters and the cable check are done early: none of their deadlines is reached); `voltages_rise` (while
-//! the car pre-charges, the charger gives what it told, 100.0 V more with each order of limits, up to the target; its newest order it tells 20 ms behind it)
-//! and `voltages_are_told` (where the post reads a PreCharge request, the charger has told all that it was ordered).
+//! `quick_steps_are_kept` (so authorization, the parameters and the cable check are done early: none of their deadlines is reached); `exchanges_are_counted`
+//! (the exchanges are 21 and the charging replies at most, but for those that are asked again) and `quick_steps_are_few` (those three steps are asked again
+//! three times at most in all); `voltages_rise` (while the car pre-charges, the charger gives what it told, 100.0 V more with each order of limits, up to the
+//! target; its newest order it tells 20 ms behind it) and `voltages_are_told` (where the post reads a PreCharge request, the charger has told all that it was
+//! ordered).
 
 ghost use Rattle.car_spec.specs.Codecs as car;
 ghost use Rattle.matched_pairs.specs.Bounds.{MomentsAreBounded};
 ghost use Rattle.matched_pairs.specs.Clocks.{ClocksAreRight};
 ghost use Rattle.matched_pairs.specs.Closing.{ClosesAreHeard};
+ghost use Rattle.matched_pairs.specs.Counted.{ExchangesAreCounted, QuickStepsAreFew};
 ghost use Rattle.matched_pairs.specs.Limits.{SessionsAreUndisturbed};
 ghost use Rattle.matched_pairs.specs.Paces.{SessionsKeepPace};
 ghost use Rattle.matched_pairs.specs.Pauses.{TimePassesInPauses};
@@ -105,6 +108,16 @@ pub fn repeats_are_of_now<C: Coded, D: CarCoded>()
 /// The deadlines of authorization, of the parameters and of the cable check aren't reached.
 pub fn quick_steps_are_kept<C: Coded, D: CarCoded>()
     ensures { QuickStepsAreKept (post.codecs C.negotiates C.reads C.encodes) (car.codecs D.offers D.responds D.reads D.encodes) }
+{}
+
+/// But for what is asked again, 21 exchanges and the charging replies are enough.
+pub fn exchanges_are_counted<C: Coded, D: CarCoded>()
+    ensures { ExchangesAreCounted (post.codecs C.negotiates C.reads C.encodes) (car.codecs D.offers D.responds D.reads D.encodes) }
+{}
+
+/// Authorization, the parameters and the cable check are asked again three times at most in all.
+pub fn quick_steps_are_few<C: Coded, D: CarCoded>()
+    ensures { QuickStepsAreFew (post.codecs C.negotiates C.reads C.encodes) (car.codecs D.offers D.responds D.reads D.encodes) }
 {}
 
 /// While the car pre-charges, the voltage that the charger gives and tells rises with each order of limits.
