@@ -49,7 +49,7 @@ one_generate words m n p q h k = same_generate m n p q (one_asked words (generat
 
 -- which is that of some sessions, and of few
 pub some_sessions : (words : List (List ℕ)) (seed count : ℕ) → IsGenerate words seed count → (1 ≤ count) × (count ≤ most_sessions)
-some_sessions words seed count is = is.within.1
+some_sessions words seed count is = (is.within.1, is.within.2)
 
 -- and one file and one moment
 pub one_offer : (words : List (List ℕ)) (m n : ℕ) (a b : List ℕ) → IsOffer words a m → IsOffer words b n → (a ≡ b) × (m ≡ n)

@@ -1,6 +1,7 @@
-use Rattle.std.proofs.Common.{inl, inr, [], ◌∷◌}
+use Rattle.std.proofs.Common.{inl, inr, [], ◌∷◌, refl}
 use Rattle.command_words.specs.Command.{replay, audit, talk, generate, decode, encode, basic, migrate, offer, schedule, services, pick}
 use Rattle.pair_codecs.proofs.Fitting.{are_fit}
+use Rattle.pair_command.proofs.Leaving.{no_memory}
 use Rattle.charge_run.proofs.Answered.{only_refused, only_unscanned, same_decoded, same_encoded, same_generated, same_offered, same_owned, same_picked, same_served, same_talked, wants_nothing}
 use Rattle.charge_run.proofs.WordLists.{one_audit, one_decode, one_encode, one_generate, one_offer, one_pick, one_services, one_talk, some_sessions}
 use Rattle.charge_run.proofs.Complete.{unfailed}
@@ -65,16 +66,6 @@ pub returns-in-Ok-Talk-clause-apart : goal.returns-in-Ok-Talk-clause-apart
 returns-in-Ok-Talk-clause-apart g c =
     let told = (rw c.in-Ok-Talk.field-0-is at c.in-Ok-Talk.ensures.command) in
     λ none. absurd (none (inl (inr (inr (inr (inr (inr (inr (_, _, _, told)))))))))
-
-pub in-Ok-Generate-generate_sessions-requires-clause-some : goal.in-Ok-Generate-generate_sessions-requires-clause-some
-in-Ok-Generate-generate_sessions-requires-clause-some g c =
-    let told = (rw c.in-Ok-Generate.field-0-is at c.in-Ok-Generate.ensures.command) in
-    (some_sessions c.args.words.now c.in-Ok-Generate.seed c.in-Ok-Generate.count told).0
-
-pub in-Ok-Generate-generate_sessions-requires-clause-few : goal.in-Ok-Generate-generate_sessions-requires-clause-few
-in-Ok-Generate-generate_sessions-requires-clause-few g c =
-    let told = (rw c.in-Ok-Generate.field-0-is at c.in-Ok-Generate.ensures.command) in
-    (some_sessions c.args.words.now c.in-Ok-Generate.seed c.in-Ok-Generate.count told).1
 
 pub returns-in-Ok-Generate-clause-generate : goal.returns-in-Ok-Generate-clause-generate
 returns-in-Ok-Generate-clause-generate g c seed count is =
@@ -151,6 +142,9 @@ pub returns-in-Err-NoCommand-clause-own : goal.returns-in-Err-NoCommand-clause-o
 returns-in-Err-NoCommand-clause-own g c plan recorded is =
     let none = (rw c.in-Err-NoCommand.field-0-is at c.in-Err-NoCommand.ensures.fault) in
     absurd (none (audit plan recorded) is)
+
+pub returns-in-Err-Memory-clause-talk : goal.returns-in-Err-Memory-clause-talk
+returns-in-Err-Memory-clause-talk g c station car seed is = record { leaves = no_memory _ _ _ _ _ _ _ refl (refl, refl); fit = are_fit }
 
 pub returns-in-Err-NoCommand-clause-talk : goal.returns-in-Err-NoCommand-clause-talk
 returns-in-Err-NoCommand-clause-talk g c station car seed is =
