@@ -86,7 +86,7 @@ abbrev pub IsAhead : Option CarDue → ℕ → Type 0
 IsAhead None now = Unit {0}
 IsAhead (Some d) now = rule.is_reached d.moment now ≡ false
 
-hits_later : (o : Option CarDue) (now : ℕ) (later : Option EndCause) → IsAhead o now → rule.hit_by o now later ≡ later
+pub hits_later : (o : Option CarDue) (now : ℕ) (later : Option EndCause) → IsAhead o now → rule.hit_by o now later ≡ later
 hits_later None now later a = refl
 hits_later (Some d) now later a = ap (λ (b : Bool). if b then Some d.cause else later) a
 
@@ -97,7 +97,7 @@ due_if : (b : Bool) (why : EndCause) (at now : ℕ) → now < at → IsAhead (op
 due_if true why at now l = ahead now at l
 due_if false why at now l = tt
 
-due_ahead : (why : EndCause) (at span now : ℕ) → now < at + span → IsAhead (rule.due why at span) now
+pub due_ahead : (why : EndCause) (at span now : ℕ) → now < at + span → IsAhead (rule.due why at span) now
 due_ahead why at span now l = due_if (nat_le (at + span) never) why (at + span) now l
 
 -- that of the connection

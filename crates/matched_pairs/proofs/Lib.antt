@@ -54,3 +54,4 @@ pub mod Raised
 pub mod Unsaid
 pub mod PreCharging
 pub mod Voltages
+pub mod Charged

@@ -67,7 +67,7 @@ IsBusy s y way = Pending s y way ⊎ (y ≡ None)
 length_frame : (p : List ℕ) → length (frame p) ≡ 8 + length p
 length_frame p = omega arith
 
-no_frame : (payload : List ℕ) → frame payload ≡ [] → ⊥
+pub no_frame : (payload : List ℕ) → frame payload ≡ [] → ⊥
 no_frame payload e =
     let size : length (frame payload) ≡ 8 + length payload = length_frame payload in
     let none : length (frame payload) ≡ 0 = ap length e in

@@ -132,7 +132,7 @@ acted_voltage (Send bytes) t = refl
 acted_voltage (Answer bytes) t = refl
 acted_voltage (End cause) t = refl
 
-acts_voltage : (plan : PostPlan) (o : Option Reading) (act : Act) (s : State) → (acted act true (filled plan o s)).facts.voltage ≡ s.facts.voltage
+pub acts_voltage : (plan : PostPlan) (o : Option Reading) (act : Act) (s : State) → (acted act true (filled plan o s)).facts.voltage ≡ s.facts.voltage
 acts_voltage plan o act s = acted_voltage act (filled plan o s) ∙ filled_voltage plan o s
 
 -- ---- what is so until the car has pre-charged
@@ -243,7 +243,7 @@ pub passes_still : (now : ℕ) (s : State) (k : car_states.State) → IsPassing 
 passes_still now s k (Rests r) = record { session = r.car; session_is = r.car_is; live = r.live; unread = r.unread }
 passes_still now s k (Closes r) = record { session = r.car; session_is = r.car_is; live = r.live; unread = r.unread }
 
-not_raised : (b : Bool) → (b ≡ true → ⊥) → b ≡ false
+pub not_raised : (b : Bool) → (b ≡ true → ⊥) → b ≡ false
 not_raised true n = absurd (n refl)
 not_raised false n = refl
 

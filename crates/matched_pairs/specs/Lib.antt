@@ -19,3 +19,5 @@ pub mod Paces
 pub mod Steps
 pub mod Told
 pub mod Voltages
+pub mod NeedsNow
+pub mod Charged

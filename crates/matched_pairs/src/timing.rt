@@ -14,10 +14,13 @@
 //! connection and for a reply); `steady_sessions_end` (a session that is over then, but for the turns of a plan, has ended by SessionStop at both ends);
 //! `words_are_told` (a post reads a word only behind a turn that brought bytes to an end, so that nothing of its charger was due); `voltages_rise` (while the
 //! car pre-charges, the charger gives what it told, 100.0 V more with each order of limits, up to the target; its newest order it tells 20 ms behind it) and
-//! `voltages_are_told` (where the post reads a PreCharge request, the charger has told all that it was ordered).
+//! `voltages_are_told` (where the post reads a PreCharge request, the charger has told all that it was ordered); and where a PreCharge request is asked again
+//! for the voltage that was told as the post read it (`NeedsNow`), `pre_charges_are_kept` (the deadline of the pre-charge isn't reached) and
+//! `pre_charges_are_few` (it is asked again 30 times at most).
 
 ghost use Rattle.car_spec.specs.Codecs as car;
 ghost use Rattle.matched_pairs.specs.Bounds.{MomentsAreBounded};
+ghost use Rattle.matched_pairs.specs.Charged.{PreChargesAreFew, PreChargesAreKept};
 ghost use Rattle.matched_pairs.specs.Clocks.{ClocksAreRight};
 ghost use Rattle.matched_pairs.specs.Closing.{ClosesAreHeard};
 ghost use Rattle.matched_pairs.specs.Limits.{SessionsAreUndisturbed};
@@ -101,4 +104,14 @@ pub fn voltages_rise<C: Coded, D: CarCoded>()
 /// Where the post reads a PreCharge request, the charger has told all that it was ordered.
 pub fn voltages_are_told<C: Coded, D: CarCoded>()
     ensures { VoltagesAreTold (post.codecs C.negotiates C.reads C.encodes) (car.codecs D.offers D.responds D.reads D.encodes) }
+{}
+
+/// The deadline of the pre-charge isn't reached.
+pub fn pre_charges_are_kept<C: Coded, D: CarCoded>()
+    ensures { PreChargesAreKept (post.codecs C.negotiates C.reads C.encodes) (car.codecs D.offers D.responds D.reads D.encodes) }
+{}
+
+/// PreCharge is asked for again 30 times at most.
+pub fn pre_charges_are_few<C: Coded, D: CarCoded>()
+    ensures { PreChargesAreFew (post.codecs C.negotiates C.reads C.encodes) (car.codecs D.offers D.responds D.reads D.encodes) }
 {}
