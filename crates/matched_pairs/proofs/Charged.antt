@@ -1,5 +1,5 @@
 -- How long a car pre-charges, behind all that may happen in the first session.
-use Rattle.std.proofs.Common.{◌≡◌, ℕ, zero, suc, ◌+◌, ◌-◌, ◌*◌, ◌<◌, ◌≤◌, min, Bool, true, false, ◌&&◌, ◌||◌, if◌then◌else◌, List, [], ◌∷◌, ◌++◌, Option, Some, None, refl, ap, sym, subst, ◌∙◌, ◌⊎◌, inl, inr, arith}
+use Rattle.std.proofs.Common.{◌≡◌, ℕ, suc, ◌+◌, ◌-◌, ◌*◌, ◌<◌, ◌≤◌, min, Bool, true, false, ◌&&◌, ◌||◌, List, [], ◌∷◌, ◌++◌, Option, Some, None, refl, ap, sym, subst, ◌∙◌, ◌⊎◌, inl, inr, arith}
 use Rattle.std.specs.List.{AllByRecursion}
 use Rattle.std.specs.Option.{option_map}
 use Rattle.charge_world.specs.declared.heard.PlantEvent.{PlantEvent}
@@ -10,7 +10,6 @@ use Rattle.session_words.specs.declared.plan.CarPlan.{CarPlan}
 use Rattle.session_words.specs.declared.plan.PostPlan.{PostPlan}
 use Rattle.session_words.specs.declared.word.Tell.{Tell}
 use Rattle.session_rules.specs.Delivery.{off_of}
-use Rattle.v2gtp_frames.specs.Frames.{frame}
 use Rattle.plant_sim.specs.Charger.{Charger}
 use Rattle.post_spec.specs.Codecs as post
 use Rattle.post_spec.specs.Steps.{Event, Bytes, Clock, Act, Give, Send, Answer, End, Reading}
@@ -18,7 +17,6 @@ use Rattle.station_spec.specs.Report.{one_if}
 use Rattle.station_spec.specs.States.{State}
 use Rattle.station_spec.specs.Next.{Acts}
 use Rattle.station_spec.specs.Sharing.{Shows}
-use Rattle.car_rules.specs.declared.deadlines.CarDue.{CarDue}
 use Rattle.car_rules.specs.declared.stage.CarPhase.{CarPhase}
 use Rattle.car_rules.specs.declared.stage.CarPhase.TheVariants as phase
 use Rattle.car_rules.specs.declared.stage.CarStage.{CarStage}
@@ -31,10 +29,9 @@ use Rattle.car_spec.specs.States as car_states
 use Rattle.car_spec.specs.Deciding as car_deciding
 use Rattle.car_spec.specs.Acting as car_acting
 use Rattle.car_spec.specs.Hearing as car_hearing
-use Rattle.car_spec.specs.Next as car_next
 use Rattle.pipe_spec.specs.Chargers.{IsCharger}
-use Rattle.pipe_spec.specs.Histories.{Happening, CarComes, ChargerTells, StationHears, CarHears, TimePasses, StationDoes, CarReads, CarDoes, CarGoes, NumberIsDrawn, joined, moment, car_plan, car_cause, car_steps, to_station, to_car}
-use Rattle.pipe_spec.specs.Turns.{Station, station_state, car_state, MayTurn, CarMayReadBy, CarMayDoBy}
+use Rattle.pipe_spec.specs.Histories.{Happening, CarComes, ChargerTells, StationHears, CarHears, TimePasses, StationDoes, CarReads, CarDoes, CarGoes, NumberIsDrawn, joined, moment, car_cause, car_steps, to_station, to_car}
+use Rattle.pipe_spec.specs.Turns.{Station, station_state, car_state}
 use Rattle.pipe_spec.specs.Runs.{IsRun, IsWithin}
 use Rattle.pipe_spec.specs.Matched.{IsLeast, Reaches, IsTickOf, IsSoonCharged, IsMatched}
 use Rattle.pipe_laws.specs.OneMessage.{IsShort}
@@ -43,31 +40,28 @@ use Rattle.pipe_facts.specs.InTime.{is_told}
 use Rattle.pair_words.specs.Exchanges.{Both, Outside, heard, behind}
 use Rattle.pair_words.specs.Meeting.{ArePaired}
 use Rattle.pair_words.specs.Timed.{is_pre_charging}
-use Rattle.matched_pairs.specs.Acts.{IsOfBeginning, IsOfCar}
+use Rattle.matched_pairs.specs.Acts.{IsOfBeginning}
 use Rattle.matched_pairs.specs.Requests.{SaysOrEnds, IsOffered, IsAsked}
 use Rattle.matched_pairs.specs.Phases.{Words, NoneYet, Read}
 use Rattle.matched_pairs.specs.Moves.{IsPair}
 use Rattle.matched_pairs.specs.Courses.{IsAt, GoesWell}
 use Rattle.matched_pairs.specs.Power.{AllKeepTime}
-use Rattle.matched_pairs.specs.Steps.{IsStepInTime, step_deadline, KeepsSteps, AllKeepSteps}
+use Rattle.matched_pairs.specs.Steps.{step_deadline, KeepsSteps, AllKeepSteps}
 use Rattle.matched_pairs.specs.Voltages.{is_limits, limits_given, volts_behind, HasPhase, IsInPhase}
 use Rattle.matched_pairs.specs.NeedsNow.{before_word, NeedsNow}
 use Rattle.matched_pairs.specs.Charged.{stage_pre_charges, pre_charges, pre_charges_again, PreChargesAreKept, PreChargesAreFew}
 use Rattle.matched_pairs.proofs.CarPhases.{same_session}
-use Rattle.matched_pairs.proofs.CarsDo.{cars_act}
-use Rattle.matched_pairs.proofs.CarMoves.{begins_unstaged, GoesOn, acts_on}
 use Rattle.matched_pairs.proofs.Requested.{posts_do}
 use Rattle.matched_pairs.proofs.Coming.{HasSomeUnread}
 use Rattle.matched_pairs.proofs.Deadlines.{hits_later, due_ahead, deadlines_are_kept}
 use Rattle.matched_pairs.proofs.Held.{Holds, Known, car_heard}
-use Rattle.matched_pairs.proofs.Measured.{Gives, IsDue, Steady, IsRaised, IsSoon, Rising, Volts}
-use Rattle.matched_pairs.proofs.Passing.{IsPassing, IsResting, IsInClosing, Rests, Closes}
+use Rattle.matched_pairs.proofs.Measured.{Gives, Steady, IsRaised, IsSoon, Rising, Volts}
+use Rattle.matched_pairs.proofs.Passing.{IsPassing, Rests, Closes}
 use Rattle.matched_pairs.proofs.Paces.{front, Seen, known, passing_at, first_of as first_session_of, seen, holds_in}
-use Rattle.matched_pairs.proofs.PreCharging.{PastStart, past_heard, past_said, past_by, past_of, past_unstaged, not_past, in_phase, phase_is, unstaged, heard_phase, IsPlaced, Before, PreCharges, Behind, placed, MovesTo, reads_on, reads_past, never_staged}
-use Rattle.matched_pairs.proofs.Raised.{is_raised, Pending, IsUnread, IsBusy, busy_reads, no_frame}
+use Rattle.matched_pairs.proofs.PreCharging.{PastStart, past_heard, past_said, past_by, past_of, past_unstaged, not_past, in_phase, phase_is, unstaged, IsPlaced, Before, PreCharges, Behind, placed, MovesTo, reads_on, reads_past}
+use Rattle.matched_pairs.proofs.Raised.{is_raised, IsUnread, busy_reads, no_frame}
 use Rattle.matched_pairs.proofs.Replied.{IsReadSo, AChoice, AReply, ReadsChoice, ReadsReply}
 use Rattle.matched_pairs.proofs.Rows.{is_from_start}
-use Rattle.matched_pairs.proofs.Timely.{timely_sessions_are_undisturbed}
 use Rattle.matched_pairs.proofs.Voltages.{acts_voltage, EarlyOf, Goes, goes_in, not_raised, charger_of, how_read, still_lives, Paces, paces, again_so, due_is, leads_so}
 
 some_none : {A : Type 0} (a : A) → Some a ≡ None → ⊥
