@@ -49,8 +49,9 @@ use Rattle.matched_pairs.specs.Power.{AllKeepTime}
 use Rattle.matched_pairs.specs.Steps.{step_deadline, KeepsSteps, AllKeepSteps}
 use Rattle.matched_pairs.specs.Voltages.{is_limits, limits_given, volts_behind, HasPhase, IsInPhase}
 use Rattle.matched_pairs.specs.NeedsNow.{before_word, NeedsNow}
-use Rattle.matched_pairs.specs.Charged.{stage_pre_charges, pre_charges, pre_charges_again, PreChargesAreKept, PreChargesAreFew}
+use Rattle.matched_pairs.specs.Charged.{stage_pre_charges, pre_charges, pre_charges_again, PreChargesAreKept, PreChargesAreFew, PreChargesAreTold}
 use Rattle.matched_pairs.proofs.CarPhases.{same_session}
+use Rattle.matched_pairs.proofs.CarMoves.{begins_unstaged}
 use Rattle.matched_pairs.proofs.Requested.{posts_do}
 use Rattle.matched_pairs.proofs.Coming.{HasSomeUnread}
 use Rattle.matched_pairs.proofs.Deadlines.{hits_later, due_ahead, deadlines_are_kept}
@@ -58,11 +59,13 @@ use Rattle.matched_pairs.proofs.Held.{Holds, Known, car_heard}
 use Rattle.matched_pairs.proofs.Measured.{Gives, Steady, IsRaised, IsSoon, Rising, Volts}
 use Rattle.matched_pairs.proofs.Passing.{IsPassing, Rests, Closes}
 use Rattle.matched_pairs.proofs.Paces.{front, Seen, known, passing_at, first_of as first_session_of, seen, holds_in}
-use Rattle.matched_pairs.proofs.PreCharging.{PastStart, past_heard, past_said, past_by, past_of, past_unstaged, not_past, in_phase, phase_is, unstaged, IsPlaced, Before, PreCharges, Behind, placed, MovesTo, reads_on, reads_past}
+use Rattle.matched_pairs.proofs.PreCharging.{PastStart, past_heard, past_said, past_by, past_of, past_unstaged, not_past, in_phase, phase_is, unstaged, IsPlaced, Before, PreCharges, Behind, placed, MovesTo, reads_on, reads_past, never_staged}
 use Rattle.matched_pairs.proofs.Raised.{is_raised, IsUnread, busy_reads, no_frame}
 use Rattle.matched_pairs.proofs.Replied.{IsReadSo, AChoice, AReply, ReadsChoice, ReadsReply}
 use Rattle.matched_pairs.proofs.Rows.{is_from_start}
-use Rattle.matched_pairs.proofs.Voltages.{acts_voltage, EarlyOf, Goes, goes_in, not_raised, charger_of, how_read, still_lives, Paces, paces, again_so, due_is, leads_so}
+use Rattle.matched_pairs.proofs.Timely.{timely_sessions_are_undisturbed}
+use Rattle.matched_pairs.proofs.Courses.{sessions_go_well}
+use Rattle.matched_pairs.proofs.Voltages.{acts_voltage, EarlyOf, Goes, goes_in, not_raised, charger_of, how_read, still_lives, Paces, paces, again_so, due_is, leads_so, goes_first, early_while, voltages_are_told}
 
 some_none : {A : Type 0} (a : A) → Some a ≡ None → ⊥
 some_none a e = cc
@@ -708,3 +711,35 @@ pre_charges_are_few c cs need st plan h p some f l d most =
     charges_in c cs st plan f.session m.ticks 30 need some tick.holds (thirty plan.target_voltage most) p f.within (subst (λ (x : List Happening). IsRun c cs st x) f.h_is f.run)
     (subst (λ (x : List Happening). AllByRecursion (IsShort 65544) x) f.h_is l) (subst (λ (x : List Happening). AllKeepTime st (joined plan) x) f.h_is time) in
     subst (λ (x : List Happening). pre_charges_again (joined plan) x ≤ 30) (sym f.h_is) k.few
+
+-- ---- where the post reads a PreCharge request
+
+reads_unraised : (words : Words) (c : post.Codecs) (cs : car.Codecs) (st : Station) (plan : CarPlan) (h : List Happening) (r : Reading) (act : Act) → IsPair c cs st.post plan → IsAt c cs st plan words h
+    → Acts c st.post (Shows st.limit [] []) (station_state st h) (Some r) act true → IsInPhase phase.PreCharging (car_state plan h).session → EarlyOf st plan h (car_state plan h) → is_raised h ≡ false
+reads_unraised NoneYet c cs st plan h r act p at i ph k =
+    absurd (never_staged (car_state plan h).session (begins_unstaged c cs st.post plan (station_state st h) (car_state plan h) (to_station h) (to_car h) at) ph)
+reads_unraised (Read dialect xs) c cs st plan h r act p at i ph k =
+    let a : IsAsked st.post plan dialect xs (station_state st h) (car_state plan h) (to_station h) (to_car h) =
+    posts_do c cs st.post plan st.limit (Read dialect xs) (station_state st h) (car_state plan h) (to_station h) (to_car h) (Some r) act p at i in
+    let awaits = a.awaits in
+    let still = awaits.still in
+    let none = a.none in
+    not_raised (is_raised h) (λ x. busy_reads c st.post st.limit (station_state st h) (car_state plan h).session awaits.session (to_car h) r act i still.session_is awaits.unread_is none.car (k.busy x))
+
+none_more : (n : ℕ) → n + 0 ≡ n
+none_more n = omega arith
+
+pub pre_charges_are_told : (c : post.Codecs) (cs : car.Codecs) → PreChargesAreTold c cs
+pre_charges_are_told c cs need st plan h reading act p some f l d i ph =
+    let m : IsSoonCharged (joined plan) = soon_charged c cs st.post (joined plan) p in
+    let least : IsLeast (Reaches plan.target_voltage) m.steps = m.steps_are in
+    let tick : IsLeast (IsTickOf plan.pace) m.ticks = m.ticks_are in
+    let charged : Charges st (joined plan) (front plan f.session) (10 * m.ticks) m.steps =
+    charges_in c cs st plan f.session m.ticks m.steps need some tick.holds least.holds p f.within (subst (λ (x : List Happening). IsRun c cs st x) f.h_is f.run)
+    (subst (λ (x : List Happening). AllByRecursion (IsShort 65544) x) f.h_is l) (subst (λ (x : List Happening). AllKeepTime st (joined plan) x) f.h_is d) in
+    let k : Charges st (joined plan) h (10 * m.ticks) m.steps = subst (λ (x : List Happening). Charges st (joined plan) x (10 * m.ticks) m.steps) (sym f.h_is) charged in
+    let well : GoesWell c cs st (joined plan) h = sessions_go_well c cs st plan h p f l (timely_sessions_are_undisturbed c cs st plan h p f l d) in
+    let none : is_raised h ≡ false = reads_unraised well.words c cs st (joined plan) h reading act p well.phase i ph (early_while st (joined plan) h (goes_first c cs st plan h p f l d) ph) in
+    voltages_are_told c cs st plan h reading act p f l d i ph
+    ∙ ap (volts_behind plan.target_voltage)
+    (k.given (not_past (car_state (joined plan) h).session ph) ∙ ap (λ (b : Bool). pre_charges_again (joined plan) h + one_if b) none ∙ none_more (pre_charges_again (joined plan) h))

@@ -723,7 +723,7 @@ goes_in c cs st plan (e ∷ session) p w r l d =
     step e c cs st plan session (seen c cs st plan session p w.1 r.0 l.1 d.0) (seen c cs st plan (e ∷ session) p w r l d) (holds_in c cs st plan session p w.1 r.0 l.1 d.0)
     (goes_in c cs st plan session p w.1 r.0 l.1 d.0)
 
-goes_first : (c : post.Codecs) (cs : car.Codecs) (st : Station) (plan : CarPlan) (h : List Happening) → IsPair c cs st.post (joined plan) → IsFirst c cs st plan h → AllByRecursion (IsShort 65544) h
+pub goes_first : (c : post.Codecs) (cs : car.Codecs) (st : Station) (plan : CarPlan) (h : List Happening) → IsPair c cs st.post (joined plan) → IsFirst c cs st plan h → AllByRecursion (IsShort 65544) h
     → AllKeepTime st (joined plan) h → Goes st (joined plan) h
 goes_first c cs st plan h p f l d =
     subst (λ (x : List Happening). Goes st (joined plan) x) (sym f.h_is)

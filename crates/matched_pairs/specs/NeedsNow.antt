@@ -28,7 +28,7 @@ before_word (other ∷ h) = before_word h
 -- 65,544: the bytes of the longest frame that is read. The site bears a watt at least
 abbrev pub NeedsNow : post.Codecs → car.Codecs → Type 0
 NeedsNow c cc = (st : Station) (plan : CarPlan) (h : List Happening) (reply : Reply) (session : Session) (stage : CarStage)
-    → IsPair c cc st.post (joined plan) → 1 ≤ st.limit → IsFirst c cc st plan (CarReads (Told reply) ∷ h) → AllByRecursion (IsShort 65544) h → AllGoUndisturbed c cc st (joined plan) h
-    → (car_state (joined plan) h).session ≡ Some session → session.stage ≡ Some stage → stage.phase ≡ phase.PreCharging
-    → (stage_behind (joined plan) stage reply session.stop).phase ≡ phase.PreCharging
+    → IsPair c cc st.post (joined plan) → 1 ≤ st.limit → IsFirst c cc st plan (CarReads (Told reply) ∷ h) → AllByRecursion (IsShort 65544) h
+    → AllGoUndisturbed c cc st (joined plan) h → (car_state (joined plan) h).session ≡ Some session → session.stage ≡ Some stage
+    → stage.phase ≡ phase.PreCharging → (stage_behind (joined plan) stage reply session.stop).phase ≡ phase.PreCharging
     → 200 < off_of (record { target = plan.target_voltage; voltage = (station_state st (before_word h)).facts.voltage })

@@ -18,7 +18,8 @@ pub use going::{
 pub use hearing::{cars_hear, posts_hear};
 pub use timing::{
     clocks_are_right, closes_are_heard, deadlines_are_kept, moments_are_bounded, powers_are_within,
-    pre_charges_are_few, pre_charges_are_kept, sessions_are_undisturbed, sessions_keep_pace,
-    steady_sessions_end, time_passes_in_pauses, timely_sessions_are_undisturbed,
-    timely_sessions_end, voltages_are_told, voltages_rise, words_are_told,
+    pre_charges_are_few, pre_charges_are_kept, pre_charges_are_told, sessions_are_undisturbed,
+    sessions_keep_pace, steady_sessions_end, time_passes_in_pauses,
+    timely_sessions_are_undisturbed, timely_sessions_end, voltages_are_told, voltages_rise,
+    words_are_told,
 };

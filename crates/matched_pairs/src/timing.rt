@@ -15,12 +15,12 @@
 //! `words_are_told` (a post reads a word only behind a turn that brought bytes to an end, so that nothing of its charger was due); `voltages_rise` (while the
 //! car pre-charges, the charger gives what it told, 100.0 V more with each order of limits, up to the target; its newest order it tells 20 ms behind it) and
 //! `voltages_are_told` (where the post reads a PreCharge request, the charger has told all that it was ordered); and where a PreCharge request is asked again
-//! for the voltage that was told as the post read it (`NeedsNow`), `pre_charges_are_kept` (the deadline of the pre-charge isn't reached) and
-//! `pre_charges_are_few` (it is asked again 30 times at most).
+//! for the voltage that was told as the post read it (`NeedsNow`), `pre_charges_are_kept` (the deadline of the pre-charge isn't reached),
+//! `pre_charges_are_few` (it is asked again 30 times at most) and `pre_charges_are_told` (the told voltage rose with each time that it was asked again).
 
 ghost use Rattle.car_spec.specs.Codecs as car;
 ghost use Rattle.matched_pairs.specs.Bounds.{MomentsAreBounded};
-ghost use Rattle.matched_pairs.specs.Charged.{PreChargesAreFew, PreChargesAreKept};
+ghost use Rattle.matched_pairs.specs.Charged.{PreChargesAreFew, PreChargesAreKept, PreChargesAreTold};
 ghost use Rattle.matched_pairs.specs.Clocks.{ClocksAreRight};
 ghost use Rattle.matched_pairs.specs.Closing.{ClosesAreHeard};
 ghost use Rattle.matched_pairs.specs.Limits.{SessionsAreUndisturbed};
@@ -114,4 +114,9 @@ pub fn pre_charges_are_kept<C: Coded, D: CarCoded>()
 /// PreCharge is asked for again 30 times at most.
 pub fn pre_charges_are_few<C: Coded, D: CarCoded>()
     ensures { PreChargesAreFew (post.codecs C.negotiates C.reads C.encodes) (car.codecs D.offers D.responds D.reads D.encodes) }
+{}
+
+/// Where the post reads a PreCharge request, the told voltage rose by 100.0 V with each one that was asked for again.
+pub fn pre_charges_are_told<C: Coded, D: CarCoded>()
+    ensures { PreChargesAreTold (post.codecs C.negotiates C.reads C.encodes) (car.codecs D.offers D.responds D.reads D.encodes) }
 {}
