@@ -30,8 +30,9 @@ pub use going::{
 pub use hearing::{cars_hear, posts_hear};
 pub use timing::{
     clocks_are_right, closes_are_heard, deadlines_are_kept, exchanges_are_counted,
-    moments_are_bounded, powers_are_within, quick_steps_are_few, quick_steps_are_kept,
-    repeats_are_of_now, sessions_are_undisturbed, sessions_keep_pace, steady_sessions_end,
-    time_passes_in_pauses, timely_sessions_are_undisturbed, timely_sessions_end, voltages_are_told,
-    voltages_rise, words_are_told,
+    moments_are_bounded, powers_are_within, pre_charges_are_few, pre_charges_are_kept,
+    quick_steps_are_few, quick_steps_are_kept, repeats_are_of_now, sessions_are_undisturbed,
+    sessions_keep_pace, steady_sessions_end, time_passes_in_pauses,
+    timely_sessions_are_undisturbed, timely_sessions_end, voltages_are_told, voltages_rise,
+    words_are_told,
 };
