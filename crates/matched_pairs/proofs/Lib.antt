@@ -76,3 +76,6 @@ pub mod Counted
 pub mod Few
 pub mod WellEnded
 pub mod PipeRuns
+pub mod NeedsNow
+pub mod PreChargesAgain
+pub mod Charged

@@ -11,7 +11,6 @@ use Rattle.session_words.specs.declared.facts.Facts.{Facts}
 use Rattle.plant_sim.specs.Charger.{Charger, later, ordered, towards, moved, events, measured, IsFirst, Comes, NoneReached}
 use Rattle.station_spec.specs.Hearing.{charger_facts}
 use Rattle.car_rules.specs.declared.stage.CarPhase.TheVariants as phase
-use Rattle.car_rules.specs.declared.stage.CarStage.{CarStage}
 use Rattle.car_spec.specs.States.{Session}
 use Rattle.pipe_facts.proofs.Moments.{other_place, same_place, apart}
 use Rattle.matched_pairs.specs.Voltages.{volts_behind, IsInPhase}

@@ -66,7 +66,7 @@ paired site plan st seed s r is g =
     }
 
 pub pipe_runs_are_well : (c : post.Codecs) (cs : car.Codecs) → PipeRunsAreWell c cs
-pipe_runs_are_well c cs site plan seed h s r target run short fit together steps again =
+pipe_runs_are_well c cs site plan seed h s r target run short fit together =
     ends_well c cs run.station plan h
     (record { readings = fit.readings; agree = fit.agree; paired = paired site plan run.station seed s r run.station_is together; joined = refl })
-    (subst (λ (n : ℕ). 1 ≤ n) (sym run.station_is.limit) s.limit.0) run.session short steps again (subst (λ (n : ℕ). 1000000000 ≤ n) (sym run.station_is.turns) together.turns) together.car_turns
+    (subst (λ (n : ℕ). 1 ≤ n) (sym run.station_is.limit) s.limit.0) run.session short target (subst (λ (n : ℕ). 1000000000 ≤ n) (sym run.station_is.turns) together.turns) together.car_turns

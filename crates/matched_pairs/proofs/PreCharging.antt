@@ -16,7 +16,7 @@ use Rattle.session_rules.specs.Orders.{granted_order, order_of}
 use Rattle.session_rules.specs.Stages.{is_waiting, confirmed}
 use Rattle.session_rules.specs.Verdict.{verdict, is_accepted}
 use Rattle.post_spec.specs.Codecs as post
-use Rattle.post_spec.specs.Steps.{Event, Act, Send}
+use Rattle.post_spec.specs.Steps.{Event, Act}
 use Rattle.station_spec.specs.States as station
 use Rattle.station_spec.specs.Judging.{order_by}
 use Rattle.station_spec.specs.Next.{Acts}
@@ -31,7 +31,7 @@ use Rattle.car_spec.specs.Codecs as car
 use Rattle.car_spec.specs.Deciding.{decided}
 use Rattle.car_spec.specs.Hearing.{session_heard}
 use Rattle.car_spec.specs.Acting.{awaiting}
-use Rattle.car_spec.specs.Judging.{moved, ends, read}
+use Rattle.car_spec.specs.Judging.{moved, read}
 use Rattle.car_spec.specs.Spelled.{dropped_ask}
 use Rattle.car_spec.specs.States.{Session, State}
 use Rattle.pipe_spec.specs.Histories.{token}
@@ -51,7 +51,7 @@ use Rattle.matched_pairs.proofs.Raised.{Unwaiting}
 use Rattle.matched_pairs.proofs.Replied.{ReadsReply}
 use Rattle.matched_pairs.proofs.Requested.{ends_do}
 use Rattle.matched_pairs.proofs.PostPhases.{quiet_acts, waits_quiet}
-use Rattle.matched_pairs.proofs.Rows.{is_from_start, is_behind_start, from_behind, leads_behind, no_renewal, accepts}
+use Rattle.matched_pairs.proofs.Rows.{is_from_start, from_behind, leads_behind, no_renewal, accepts}
 use Rattle.matched_pairs.proofs.Starting.{waits_for_start}
 
 true_false : true ≡ false → ⊥
@@ -127,9 +127,6 @@ pub data IsPlaced (ph : CarPhase) : Type 0 where
   Before : is_from_start ph ≡ false → (ph ≡ phase.PreCharging → ⊥) → IsPlaced ph
   PreCharges : ph ≡ phase.PreCharging → IsPlaced ph
   Behind : is_from_start ph ≡ true → IsPlaced ph
-
-differ : (a b : CarPhase) (is : CarPhase → Bool) → is a ≡ true → is b ≡ false → a ≡ b → ⊥
-differ a b is e f g = true_false (sym e ∙ ap is g ∙ f)
 
 pub placed : (ph : CarPhase) → IsPlaced ph
 placed phase.SettingUp = Before refl (λ e. cc)

@@ -1,12 +1,8 @@
 -- From an order of limits on a reply is pending until the car reads it.
 use Rattle.std.proofs.Common.{◌≡◌, ℕ, ◌+◌, Bool, true, false, ◌&&◌, ◌||◌, if◌then◌else◌, List, [], ◌∷◌, ◌++◌, length, Option, Some, None, Result, Ok, Err, refl, ap, sym, subst, ◌∙◌, ◌⊎◌, inl, inr, arith}
-use Rattle.std.specs.Option.{option_map}
 use Rattle.charge_world.specs.declared.heard.PlantEvent.{PlantEvent}
 use Rattle.charge_world.specs.declared.ports.Order.{Order}
-use Rattle.charge_world.specs.declared.ports.Order.TheVariants as order
 use Rattle.session_words.specs.declared.cause.EndCause.{EndCause}
-use Rattle.session_words.specs.declared.phase.Phase.{Phase}
-use Rattle.session_words.specs.declared.phase.Phase.TheVariants as row
 use Rattle.session_words.specs.declared.phase.Standing.{Standing}
 use Rattle.session_words.specs.declared.phase.Standing.TheVariants as standing
 use Rattle.session_words.specs.declared.plan.PostPlan.{PostPlan}
@@ -24,7 +20,6 @@ use Rattle.station_spec.specs.States.{Spoken, Response, Said, Agenda, Session, S
 use Rattle.station_spec.specs.States as states
 use Rattle.station_spec.specs.Deciding.{ending_by, ending_in, repeating, is_reached, due, timing, watch, confirms, confirming, charging_by, charging, eventing, fronting_by, fronting, from_part, decided}
 use Rattle.station_spec.specs.Hearing.{hearing}
-use Rattle.station_spec.specs.Judging.{filled}
 use Rattle.station_spec.specs.Acting.{acted}
 use Rattle.station_spec.specs.Next.{IsQuiet, IsSpoken, IsDone, Acts}
 use Rattle.station_spec.specs.Sharing.{Shows}
@@ -34,7 +29,6 @@ use Rattle.car_spec.specs.Hearing as car_hearing
 use Rattle.pipe_spec.specs.Histories.{Happening, StationDoes, CarReads, station_says}
 use Rattle.pair_deeds.specs.Posts.{DoesFirst}
 use Rattle.pair_deeds.proofs.Posts.{posts_do_what_is_first}
-use Rattle.matched_pairs.specs.Contactors.{is_late}
 use Rattle.matched_pairs.specs.Voltages.{is_limits}
 use Rattle.matched_pairs.proofs.PostPhases.{stays_busy}
 use Rattle.matched_pairs.proofs.Coming.{HasSomeUnread}
@@ -67,7 +61,7 @@ IsBusy s y way = Pending s y way ⊎ (y ≡ None)
 length_frame : (p : List ℕ) → length (frame p) ≡ 8 + length p
 length_frame p = omega arith
 
-no_frame : (payload : List ℕ) → frame payload ≡ [] → ⊥
+pub no_frame : (payload : List ℕ) → frame payload ≡ [] → ⊥
 no_frame payload e =
     let size : length (frame payload) ≡ 8 + length payload = length_frame payload in
     let none : length (frame payload) ≡ 0 = ap length e in
@@ -281,10 +275,6 @@ heard_unread (Some x) s bytes rest at n = inl (IsUnread (λ e. n (nil_right x.un
 
 pub busy_car_heard : (y : Option car_states.Session) (s : State) (bytes rest : List ℕ) (at : ℕ) → (bytes ≡ [] → ⊥) → IsBusy s (car_hearing.session_heard (Bytes bytes) at y) rest
 busy_car_heard y s bytes rest at n = heard_unread y s bytes rest at n
-
--- what its session keeps unread
-abbrev pub SameUnread : Option car_states.Session → Option car_states.Session → Type 0
-SameUnread y z = (HasSomeUnread y → HasSomeUnread z) × (HasSomeUnread z → HasSomeUnread y) × (y ≡ None → z ≡ None)
 
 pub busy_car_acts : (s : State) (y z : Option car_states.Session) (way : List ℕ) → (HasSomeUnread y → HasSomeUnread z) → (y ≡ None → z ≡ None) → IsBusy s y way → IsBusy s z way
 busy_car_acts s y z way u n (inl (IsDecided spoken f)) = inl (IsDecided spoken f)

@@ -1,11 +1,10 @@
 -- A car that is to ask once more says nothing before that is due.
-use Rattle.std.proofs.Common.{◌≡◌, ℕ, ◌≤◌, nat_le, Bool, true, false, if◌then◌else◌, List, [], Option, Some, None, Result, Ok, Err, refl, ap, sym, subst, ◌∙◌, ◌⊎◌, inl, inr, arith}
+use Rattle.std.proofs.Common.{◌≡◌, ℕ, ◌≤◌, nat_le, Bool, true, false, if◌then◌else◌, List, Option, Some, None, Result, Ok, Err, refl, ap, sym, subst, ◌∙◌, ◌⊎◌, inl, inr, arith}
 use Rattle.std.proofs.lemmas.Bool.Decides.{nat_tests}
 use Rattle.std.specs.Option.{option_map}
 use Rattle.charge_world.specs.declared.heard.PlantEvent.{PlantEvent}
 use Rattle.charge_world.specs.declared.ports.Order.{Order}
 use Rattle.session_words.specs.declared.cause.EndCause.{EndCause}
-use Rattle.session_words.specs.declared.cause.EndCause.TheVariants as cause
 use Rattle.session_words.specs.declared.plan.CarPlan.{CarPlan}
 use Rattle.session_words.specs.declared.plan.PostPlan.{PostPlan}
 use Rattle.session_words.specs.declared.word.Reply.{Reply}
@@ -16,31 +15,26 @@ use Rattle.v2gtp_frames.specs.Reading.{whole_at}
 use Rattle.post_spec.specs.Codecs as post
 use Rattle.post_spec.specs.Steps.{Event, Came, Bytes, Gone, Datagram, Plant, Clock, Over}
 use Rattle.station_spec.specs.States as station
-use Rattle.car_rules.specs.declared.stage.CarPhase.TheVariants as phase
 use Rattle.car_rules.specs.declared.stage.CarStage.{CarStage}
 use Rattle.car_rules.specs.Deadlines.{hit}
 use Rattle.car_rules.specs.Moves.{is_again, stage_behind}
 use Rattle.car_rules.specs.Replies.{plant_cause, reply_cause}
 use Rattle.car_rules.specs.Searching.{is_searching}
-use Rattle.car_rules.specs.declared.searching.Search.{Search}
 use Rattle.car_spec.specs.Codecs as car
 use Rattle.car_spec.specs.Codecs.{Judged, Chosen, Told, WrongSide, Refused}
 use Rattle.car_spec.specs.Steps.{Spoken, Offer, Asked, Act, Seek, Dial, Give, Say, End}
 use Rattle.car_spec.specs.States.{Agenda, Session, State, Todo, nothing, first, first_of}
 use Rattle.car_spec.specs.States as states
 use Rattle.car_spec.specs.Due.{all_deadlines, is_due}
-use Rattle.car_spec.specs.Deciding.{ending_if, ending_in, calling, charging, greeting, eventing, timing, fronting_by, fronting, asking, repeating, seeking, decided}
+use Rattle.car_spec.specs.Deciding.{ending_if, ending_in, charging, greeting, eventing, fronting_by, fronting, asking, repeating, decided}
 use Rattle.car_spec.specs.Hearing.{session_heard}
 use Rattle.car_spec.specs.Judging.{moved, replied_by, replied, judged, judged_in}
 use Rattle.car_spec.specs.Acting.{awaiting}
 use Rattle.car_spec.specs.Next.{IsDone, MayAct}
 use Rattle.car_laws.proofs.Decided.{decided_by}
-use Rattle.pair_words.specs.Laws.{both, has_ended}
-use Rattle.pipe_spec.specs.Histories.{token}
 use Rattle.pair_words.specs.Exchanges.{Both}
 use Rattle.matched_pairs.specs.Ends.{IsToFinish}
-use Rattle.matched_pairs.specs.Phases.{Talks, IsToAsk, Rests, Asks, IsToReply, Closes, Replies, Ends, IsToStop, Stopped, Words, NoneYet, Read, TalksBy, IsIn}
-use Rattle.matched_pairs.specs.Voltages.{HasPhase, IsInPhase}
+use Rattle.matched_pairs.specs.Phases.{Talks, IsToAsk, Rests, Asks, IsToReply, Closes, Replies, IsToStop, Stopped, Words, NoneYet, Read, TalksBy, IsIn}
 use Rattle.matched_pairs.proofs.CarPhases.{still_acts, ended_acts, DrivesLast, drives_last, Finishes, finishes}
 use Rattle.matched_pairs.proofs.CarMoves.{begins_unstaged}
 use Rattle.matched_pairs.proofs.Pacing.{IsRepeated, AgainBy, PacedBy}

@@ -1,5 +1,5 @@
 -- The voltage that the charger gives and tells, behind all that may happen in the first session until the car has pre-charged.
-use Rattle.std.proofs.Common.{◌≡◌, ℕ, suc, ◌+◌, ◌≤◌, ◌<◌, nat_le, Bool, true, false, min, if◌then◌else◌, List, [], ◌∷◌, ◌++◌, take, length, Option, Some, None, is_some, refl, ap, sym, subst, ◌∙◌, ◌⊎◌, inl, inr, arith}
+use Rattle.std.proofs.Common.{◌≡◌, ℕ, suc, ◌+◌, ◌≤◌, nat_le, Bool, true, false, min, if◌then◌else◌, List, [], ◌∷◌, ◌++◌, take, Option, Some, None, is_some, refl, ap, sym, subst, ◌∙◌, ◌⊎◌, inl, inr, arith}
 use Rattle.std.specs.List.{AllByRecursion}
 use Rattle.std.proofs.lemmas.Bool.Decides.{nat_tests}
 use Rattle.std.specs.Option.{option_map}
@@ -24,11 +24,9 @@ use Rattle.session_rules.specs.Verdict.{verdict, is_accepted}
 use Rattle.plant_sim.specs.Charger.{Charger, idle, came, NoneReached}
 use Rattle.post_spec.specs.Codecs as post
 use Rattle.post_spec.specs.Steps.{Event, Bytes, Plant, Clock, Act, Give, Send, Answer, End, Reading}
-use Rattle.station_spec.specs.States.{Spoken, Agenda, Session, State, nothing, first}
-use Rattle.station_spec.specs.States as states
+use Rattle.station_spec.specs.States.{Spoken, Agenda, Session, State, nothing}
 use Rattle.station_spec.specs.Deciding.{decided}
-use Rattle.station_spec.specs.Hearing.{hearing}
-use Rattle.station_spec.specs.Judging.{order_by, judged, taken_in, read, filled}
+use Rattle.station_spec.specs.Judging.{judged, taken_in, read, filled}
 use Rattle.station_spec.specs.Acting.{acted}
 use Rattle.station_spec.specs.Next.{IsQuiet, Acts}
 use Rattle.station_spec.specs.Sharing.{Shows}
@@ -44,11 +42,10 @@ use Rattle.car_spec.specs.States as car_states
 use Rattle.car_spec.specs.Deciding as car_deciding
 use Rattle.car_spec.specs.Acting as car_acting
 use Rattle.car_spec.specs.Hearing as car_hearing
-use Rattle.car_spec.specs.Judging as car_judging
 use Rattle.car_spec.specs.Next as car_next
 use Rattle.pipe_spec.specs.Chargers.{behind_act, IsCharger}
-use Rattle.pipe_spec.specs.Histories.{Happening, CarComes, ChargerTells, StationHears, CarHears, TimePasses, StationDoes, CarReads, CarDoes, CarGoes, NumberIsDrawn, joined, moment, token, car_plan, car_cause, car_steps, station_says, to_station, to_car, ported}
-use Rattle.pipe_spec.specs.Turns.{Station, station_state, car_state, BothRest, MayTurn, StationRests, CarMayReadBy, CarMayDoBy, Follows}
+use Rattle.pipe_spec.specs.Histories.{Happening, CarComes, ChargerTells, StationHears, CarHears, TimePasses, StationDoes, CarReads, CarDoes, CarGoes, NumberIsDrawn, joined, moment, token, car_plan, car_cause, car_steps, to_station, to_car, ported}
+use Rattle.pipe_spec.specs.Turns.{Station, station_state, car_state, BothRest, MayTurn, StationRests, CarMayReadBy, CarMayDoBy}
 use Rattle.pipe_spec.specs.Runs.{IsRun, IsWithin}
 use Rattle.pipe_laws.specs.OneMessage.{IsShort}
 use Rattle.pipe_laws.specs.PipePasts.{IsFirst}
@@ -58,7 +55,7 @@ use Rattle.pipe_facts.specs.InTime.{is_told}
 use Rattle.pipe_facts.proofs.Moments.{came_elsewhere}
 use Rattle.pair_words.specs.Exchanges.{Both, Outside, judged as judged_of, heard, behind}
 use Rattle.pair_words.specs.Meeting.{ArePaired, Meets}
-use Rattle.pair_words.specs.Laws.{both, end_of, IsAnswered}
+use Rattle.pair_words.specs.Laws.{both, end_of}
 use Rattle.pair_words.proofs.Sessions.{they_meet}
 use Rattle.pair_readings.specs.Readings.{HasAnswered}
 use Rattle.pair_deeds.specs.Cars as cars
@@ -68,7 +65,7 @@ use Rattle.matched_pairs.specs.Acts.{IsOfBeginning, IsOfCar}
 use Rattle.matched_pairs.specs.Requests.{SaysOrEnds, IsOffered, IsAsked, HasKept}
 use Rattle.matched_pairs.specs.Courses.{IsAt, AllGoUndisturbed, GoesUndisturbed, GoesWell}
 use Rattle.matched_pairs.specs.Power.{AllKeepTime}
-use Rattle.matched_pairs.specs.Voltages.{is_limits, limits_given, volts_behind, HasTold, IsToTell, IsRising, IsInPhase, VoltagesRise, VoltagesAreTold}
+use Rattle.matched_pairs.specs.Voltages.{limits_given, volts_behind, HasTold, IsToTell, IsRising, IsInPhase, VoltagesRise, VoltagesAreTold}
 use Rattle.matched_pairs.proofs.Requested.{posts_do}
 use Rattle.matched_pairs.proofs.Keeps.{posts_keep}
 use Rattle.matched_pairs.proofs.CarPhases.{same_session}
@@ -76,14 +73,14 @@ use Rattle.matched_pairs.proofs.CarsDo.{cars_act}
 use Rattle.matched_pairs.proofs.CarMoves.{begins_unstaged, reads_live, GoesOn, acts_on}
 use Rattle.matched_pairs.proofs.Clocks.{same_car_clock}
 use Rattle.matched_pairs.proofs.Coming.{HasSomeUnread, unread_said}
-use Rattle.matched_pairs.proofs.Held.{Holds, Known, not_ended, car_lives, rests}
+use Rattle.matched_pairs.proofs.Held.{Holds, Known, not_ended, car_lives}
 use Rattle.matched_pairs.proofs.Measured.{Gives, Steady, IsRaised, IsSoon, Rising, Volts, IsReached, WaitsOn, IsBeyond, same_volts, tells, orders, moves_volts, reads_volts, IsSteady, steady, heard_out}
 use Rattle.matched_pairs.proofs.Pacing.{PacedBy, IsPaced, AgainBy, IsRepeated}
 use Rattle.matched_pairs.proofs.Passing.{IsPassing, Rests, Closes}
 use Rattle.matched_pairs.proofs.Paces.{front, Seen, known, passing_at, first_of as first_session_of, seen, holds_in}
 use Rattle.matched_pairs.proofs.PreCharging.{PastStart, past_heard, past_said, past_by, past_of, past_unstaged, not_past, in_phase, phase_is, unstaged, phase_heard, heard_phase, phase_said, said_phase, IsPlaced, Before, PreCharges, Behind, placed, goes_on_then, orders_before, pre_charge_orders, pre_charge_waits_not, MovesTo, reads_on, reads_past, pre_charge_leads, never_staged, unwaiting_at}
 use Rattle.matched_pairs.proofs.Power.{IsFirstOf, first_of}
-use Rattle.matched_pairs.proofs.Raised.{is_raised, Pending, IsDecided, IsOnItsWay, IsUnread, IsBusy, busy_done, busy_reads, decides_so, Unwaiting, sends_pending, ends_pending, busy_heard, heard_pending, busy_passes, busy_car_heard, busy_car_acts, pending_car_acts, none_pending}
+use Rattle.matched_pairs.proofs.Raised.{is_raised, Pending, IsDecided, IsOnItsWay, IsBusy, busy_done, busy_reads, decides_so, Unwaiting, sends_pending, ends_pending, busy_heard, heard_pending, busy_passes, busy_car_heard, busy_car_acts, pending_car_acts, none_pending}
 use Rattle.matched_pairs.proofs.Replied.{IsReadSo, AChoice, AReply, ReadsChoice, ReadsReply, reads_so}
 use Rattle.matched_pairs.proofs.Rows.{is_from_start}
 use Rattle.matched_pairs.proofs.Timely.{timely_sessions_are_undisturbed}
@@ -132,7 +129,7 @@ acted_voltage (Send bytes) t = refl
 acted_voltage (Answer bytes) t = refl
 acted_voltage (End cause) t = refl
 
-acts_voltage : (plan : PostPlan) (o : Option Reading) (act : Act) (s : State) → (acted act true (filled plan o s)).facts.voltage ≡ s.facts.voltage
+pub acts_voltage : (plan : PostPlan) (o : Option Reading) (act : Act) (s : State) → (acted act true (filled plan o s)).facts.voltage ≡ s.facts.voltage
 acts_voltage plan o act s = acted_voltage act (filled plan o s) ∙ filled_voltage plan o s
 
 -- ---- what is so until the car has pre-charged
@@ -243,7 +240,7 @@ pub passes_still : (now : ℕ) (s : State) (k : car_states.State) → IsPassing 
 passes_still now s k (Rests r) = record { session = r.car; session_is = r.car_is; live = r.live; unread = r.unread }
 passes_still now s k (Closes r) = record { session = r.car; session_is = r.car_is; live = r.live; unread = r.unread }
 
-not_raised : (b : Bool) → (b ≡ true → ⊥) → b ≡ false
+pub not_raised : (b : Bool) → (b ≡ true → ⊥) → b ≡ false
 not_raised true n = absurd (n refl)
 not_raised false n = refl
 
@@ -726,7 +723,7 @@ goes_in c cs st plan (e ∷ session) p w r l d =
     step e c cs st plan session (seen c cs st plan session p w.1 r.0 l.1 d.0) (seen c cs st plan (e ∷ session) p w r l d) (holds_in c cs st plan session p w.1 r.0 l.1 d.0)
     (goes_in c cs st plan session p w.1 r.0 l.1 d.0)
 
-goes_first : (c : post.Codecs) (cs : car.Codecs) (st : Station) (plan : CarPlan) (h : List Happening) → IsPair c cs st.post (joined plan) → IsFirst c cs st plan h → AllByRecursion (IsShort 65544) h
+pub goes_first : (c : post.Codecs) (cs : car.Codecs) (st : Station) (plan : CarPlan) (h : List Happening) → IsPair c cs st.post (joined plan) → IsFirst c cs st plan h → AllByRecursion (IsShort 65544) h
     → AllKeepTime st (joined plan) h → Goes st (joined plan) h
 goes_first c cs st plan h p f l d =
     subst (λ (x : List Happening). Goes st (joined plan) x) (sym f.h_is)

@@ -26,3 +26,4 @@ pub mod Quick
 pub mod Counted
 pub mod Few
 pub mod PipeRuns
+pub mod Charged

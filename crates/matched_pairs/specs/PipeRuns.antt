@@ -7,15 +7,12 @@ use Rattle.session_words.specs.declared.plan.SitePlan.{SitePlan}
 use Rattle.session_words.specs.Plans.{IsCarPlan, IsSitePlan}
 use Rattle.post_spec.specs.Codecs as post
 use Rattle.car_spec.specs.Codecs as car
-use Rattle.pipe_spec.specs.Histories.{Happening, joined}
+use Rattle.pipe_spec.specs.Histories.{Happening}
 use Rattle.pipe_spec.specs.Matched.{IsMatched, EndsWell}
 use Rattle.pipe_spec.specs.Runs.{IsPipeRun}
 use Rattle.pipe_laws.specs.OneMessage.{IsShort}
-use Rattle.pair_words.specs.Timed.{is_pre_charging}
 use Rattle.pair_readings.specs.Codecs.{AreMutual}
 use Rattle.pair_negotiation.specs.Agreeing.{AgreeOnShared}
-use Rattle.matched_pairs.specs.Repeats.{repeats_in}
-use Rattle.matched_pairs.specs.Steps.{AllKeepSteps}
 
 -- codecs of both ends that read back what the other encodes, and agree on a dialect
 pub record AreFit (c : post.Codecs) (cc : car.Codecs) : Type 0 where
@@ -31,9 +28,9 @@ pub record GoTogether (site : SitePlan) (plan : CarPlan) : Type 0 where
   pub turns : 1000000000 ≤ site.turns
   pub car_turns : 1000000000 ≤ plan.turns
 
--- as far as no step of the car takes too long that is asked for again and again, and the pre-charge isn't asked again more often than its voltage needs
+-- within its bound, with codes of the OK class, by SessionStop, and with both contactors open
 abbrev pub IsWell : post.Codecs → car.Codecs → SitePlan → CarPlan → List Happening → Type 0
-IsWell c cc site plan h = AreFit c cc → GoTogether site plan → AllKeepSteps (joined plan) h → repeats_in is_pre_charging (joined plan) h ≤ 30 → EndsWell plan h
+IsWell c cc site plan h = AreFit c cc → GoTogether site plan → EndsWell plan h
 
 -- 30,000: the greatest voltage of a plan, in tenths of a volt; 1,032: a frame with a payload of 1,024 bytes
 abbrev pub PipeRunsAreWell : post.Codecs → car.Codecs → Type 0

@@ -38,8 +38,8 @@ volts_behind target orders = min target (1000 * orders)
 -- what the charger told: all that it was ordered, or all but its newest order, which it tells (place 4) 20 ms behind it
 pub data Rises (target given now : ℕ) (s : Charger) (f : Facts) : Type 0 where
   HasTold : slice_get s.moments 4 ≡ Some None → f.voltage ≡ volts_behind target given → Rises target given now s f
-  IsToTell : (before at : ℕ) → given ≡ suc before → slice_get s.moments 4 ≡ Some (Some at) → at ≤ now + 20 → f.voltage ≡ volts_behind target before
-      → Rises target given now s f
+  IsToTell : (before at : ℕ) → given ≡ suc before → slice_get s.moments 4 ≡ Some (Some at) → at ≤ now + 20
+      → f.voltage ≡ volts_behind target before → Rises target given now s f
 
 -- and it gives what it told
 pub record IsRising (target given now : ℕ) (s : Charger) (f : Facts) : Type 0 where

@@ -18,10 +18,11 @@
 //! (the exchanges are 21 and the charging replies at most, but for those that are asked again) and `quick_steps_are_few` (those three steps are asked again
 //! three times at most in all); `voltages_rise` (while the car pre-charges, the charger gives what it told, 100.0 V more with each order of limits, up to the
 //! target; its newest order it tells 20 ms behind it) and `voltages_are_told` (where the post reads a PreCharge request, the charger has told all that it was
-//! ordered).
+//! ordered); `pre_charges_are_kept` (the deadline of the pre-charge isn't reached) and `pre_charges_are_few` (it is asked again 30 times at most).
 
 ghost use Rattle.car_spec.specs.Codecs as car;
 ghost use Rattle.matched_pairs.specs.Bounds.{MomentsAreBounded};
+ghost use Rattle.matched_pairs.specs.Charged.{PreChargesAreFew, PreChargesAreKept};
 ghost use Rattle.matched_pairs.specs.Clocks.{ClocksAreRight};
 ghost use Rattle.matched_pairs.specs.Closing.{ClosesAreHeard};
 ghost use Rattle.matched_pairs.specs.Counted.{ExchangesAreCounted, QuickStepsAreFew};
@@ -128,4 +129,14 @@ pub fn voltages_rise<C: Coded, D: CarCoded>()
 /// Where the post reads a PreCharge request, the charger has told all that it was ordered.
 pub fn voltages_are_told<C: Coded, D: CarCoded>()
     ensures { VoltagesAreTold (post.codecs C.negotiates C.reads C.encodes) (car.codecs D.offers D.responds D.reads D.encodes) }
+{}
+
+/// The deadline of the pre-charge isn't reached.
+pub fn pre_charges_are_kept<C: Coded, D: CarCoded>()
+    ensures { PreChargesAreKept (post.codecs C.negotiates C.reads C.encodes) (car.codecs D.offers D.responds D.reads D.encodes) }
+{}
+
+/// PreCharge is asked for again 30 times at most.
+pub fn pre_charges_are_few<C: Coded, D: CarCoded>()
+    ensures { PreChargesAreFew (post.codecs C.negotiates C.reads C.encodes) (car.codecs D.offers D.responds D.reads D.encodes) }
 {}
