@@ -1,8 +1,8 @@
 //! The whole run of the pipe of a station and a car whose plans go together.
 //!
 //! Proved: `hearings_are_few` (where each message has 1,032 bytes at most, and the exchanges are as few as those of a session that ends well, each end hears
-//! fewer than 1,000,000,000 times); `pipe_runs_are_well` (the run ends well: within 64 exchanges and four times the charging replies, each of the OK class, by SessionStop at both ends, with
-//! both contactors ordered open last, as far as no step of the car takes too long that is asked for again and again, and these are few).
+//! fewer than 1,000,000,000 times); `pipe_runs_are_well` (the run ends well: within 64 exchanges and four times the charging replies, each of the OK class, by
+//! SessionStop at both ends, with both contactors ordered open last).
 
 ghost use Rattle.car_spec.specs.Codecs as car;
 ghost use Rattle.matched_pairs.specs.Few.{HearingsAreFew};

@@ -11,10 +11,9 @@
 //! were ordered open last), as far as no end has a cause of its own; `timely_sessions_are_undisturbed` (none has one where no deadline is reached) and
 //! `deadlines_are_kept` (none is, as far as no step of the car takes too long); `quick_steps_are_kept` and `quick_steps_are_few` (authorization, the parameters
 //! and the cable check take little time and are asked again three times at most); `voltages_are_told` (how the voltage rises while the car pre-charges);
-//! `pre_charges_are_kept` and
-//! `pre_charges_are_few` (the pre-charge is done within its deadline, and asked again 30 times at most); `exchanges_are_counted`, `hearings_are_few` and
-//! `pipe_runs_are_well` (the run of the pipe of plans that go together ends within 64 exchanges and four times the charging replies, each of the OK class, by
-//! SessionStop at both ends, with both contactors ordered open last).
+//! `pre_charges_are_kept` and `pre_charges_are_few` (the pre-charge is done within its deadline, and asked again 30 times at most); `exchanges_are_counted`,
+//! `hearings_are_few` and `pipe_runs_are_well` (the run of the pipe of plans that go together ends within 64 exchanges and four times the charging replies, each
+//! of the OK class, by SessionStop at both ends, with both contactors ordered open last).
 #![tactic(auto)]
 
 mod acting;
