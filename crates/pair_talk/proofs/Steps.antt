@@ -105,7 +105,7 @@ car_once c cc st plan h s new way false q d k =
 -- ---- a turn
 
 -- what the station heard stays so, whatever is done then
-still_heard : (deeds h : List Happening) → AllByRecursion IsDeed deeds → station_heard (deeds ++ h) ≡ station_heard h
+pub still_heard : (deeds h : List Happening) → AllByRecursion IsDeed deeds → station_heard (deeds ++ h) ≡ station_heard h
 still_heard [] h a = refl
 still_heard (StationDoes reading act ∷ deeds) h a = still_heard deeds h a.1
 still_heard (CarReads judged ∷ deeds) h a = still_heard deeds h a.1

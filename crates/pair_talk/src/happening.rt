@@ -71,10 +71,8 @@ impl Pair {
     pub(crate) fn station_hears(&mut self) -> LastHeard
         requires { PostIsQuiet (sides self.old) }
         ensures sides { sides self.new ≡ with_piece_at_station (sides self.old) }
-        ensures heard {
-            let bytes = piece_of (sides self.old).number (sides self.old).to_station in
-            last_hearing result ≡ Some (hearing_at (sides self.old).moment (what.Bytes 1 (length bytes)) bytes)
-        }
+        ensures heard { let bytes = piece_of (sides self.old).number (sides self.old).to_station in
+            last_hearing result ≡ Some (hearing_at (sides self.old).moment (what.Bytes 1 (length bytes)) bytes) }
     {
         let n = piece_length(&mut self.numbers, &self.to_station);
         let piece = &self.to_station.bytes()[..n];

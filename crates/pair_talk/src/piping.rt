@@ -6,7 +6,7 @@ ghost use Rattle.post_spec.specs.Codecs.{codecs};
 ghost use Rattle.car_spec.specs.Codecs as car_codecs;
 ghost use Rattle.pipe_spec.specs.Histories.{Happening};
 ghost use Rattle.pipe_spec.specs.Pasts.{station_heard};
-ghost use Rattle.pipe_spec.specs.Turns.{Station, is_over};
+ghost use Rattle.pipe_spec.specs.Turns.{Station, BothRest, is_over};
 ghost use Rattle.pair_talk.specs.Acting.{HaveDone};
 ghost use Rattle.pair_talk.specs.Keeping.{IsAt};
 ghost use Rattle.pair_talk.specs.Lessening.{over_by};
@@ -65,7 +65,7 @@ pub(crate) fn leave<C: Codec, D: CarCodec>(codec: &mut C, pair: &mut Pair, has_c
     requires ready { IsReadyBy C.reads has_come (sides pair.old) }
     requires over { has_come ≡ true → over_by (sides pair.old) ≡ true }
     requires early { (sides pair.old).moment ≤ 2 ^ 62 }
-    ensures leaves { (st : Station) (plan : CarPlan) (h : List Happening) → KeepsBy has_come (codecs C.negotiates C.reads C.encodes) (car_codecs.codecs D.offers D.responds D.reads D.encodes) st plan h (sides pair.old)
+    ensures leaves { (st : Station) (plan : CarPlan) (h : List Happening) → BothRest st h → KeepsBy has_come (codecs C.negotiates C.reads C.encodes) (car_codecs.codecs D.offers D.responds D.reads D.encodes) st plan h (sides pair.old)
         → HasLeft (codecs C.negotiates C.reads C.encodes) (car_codecs.codecs D.offers D.responds D.reads D.encodes) st h (sides pair.new) }
     ensures waiting { IsWaiting C.reads (sides pair.new) }
     ensures time { (sides pair.new).moment ≡ (sides pair.old).moment }
