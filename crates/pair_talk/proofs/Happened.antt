@@ -1,7 +1,9 @@
 -- What a turn does to a pair.
-use Rattle.std.proofs.Common.{◌≡◌, ◌≢◌, ◌<◌, ◌≤◌, ℕ, ◌+◌, ◌-◌, ◌*◌, ◌^◌, nat_le, Bool, true, false, ◌&&◌, ◌||◌, if◌then◌else◌, List, [], ◌∷◌, length, take, drop, Option, Some, is_some, refl, sym, ap, subst, ◌∙◌, inl, inr, arith}
+use Rattle.std.proofs.Common.{◌≡◌, ◌≢◌, ◌<◌, ◌≤◌, ℕ, ◌+◌, ◌-◌, ◌*◌, ◌^◌, nat_le, Bool, true, false, ◌&&◌, ◌||◌, if◌then◌else◌, List, [], ◌∷◌, length, take, drop, Option, Some, None, is_some, refl, sym, ap, subst, ◌∙◌, inl, inr, arith}
 use Rattle.std.proofs.lemmas.Grind.{common_steps}
 use Rattle.charge_world.specs.declared.heard.PlantEvent.{PlantEvent}
+use Rattle.charge_world.specs.declared.heard.What.{What}
+use Rattle.charge_world.specs.declared.heard.What.TheVariants as what
 use Rattle.charge_world.specs.declared.offer.Dialect.{Dialect}
 use Rattle.session_words.specs.declared.plan.CarPlan.{CarPlan}
 use Rattle.session_words.specs.declared.word.Word.{Word}
@@ -17,13 +19,14 @@ use Rattle.car_codec.specs.Requests.{IsPlan}
 use Rattle.car_acts.specs.Sound.{IsSound}
 use Rattle.car_acts.proofs.Sound as car_sound
 use Rattle.pipe_spec.specs.Numbers.{drawn}
-use Rattle.pipe_spec.specs.Histories.{Happening, ChargerTells, StationHears, CarHears, TimePasses, joined, car_plan, car_hearings, station_hearings}
+use Rattle.pipe_spec.specs.Histories.{Happening, ChargerTells, StationHears, CarHears, TimePasses, joined, moment, car_plan, car_hearings, station_hearings}
+use Rattle.pipe_spec.specs.Pasts.{Hearing, hearing_at}
 use Rattle.pipe_spec.specs.Turns.{Station, BothRest, is_none, is_over, car_is_spent}
 use Rattle.pair_ends.specs.Ends.{CarSide, car_heard_at}
-use Rattle.pair_talk.specs.Acting.{HasHappened}
 use Rattle.pair_talk.specs.Keeping.{AreSound, PostIsQuiet, CarIsQuiet, IsAt}
 use Rattle.pair_talk.specs.Lessening.{over_by, hearings_left, Lessens, IsInTime}
 use Rattle.pair_talk.specs.Sides.{Sides, with_event, piece_of, with_piece_at_station, with_piece_at_car, heard_by, later}
+use Rattle.pair_talk.specs.Turning.{HasHeard}
 use Rattle.pair_talk.proofs.Acts.{post_rests, car_rests}
 use Rattle.pair_talk.proofs.Turns.{told_at, station_at, car_at, later_at}
 
@@ -85,31 +88,40 @@ no_way (x ∷ way) e = absurd (let f : false ≡ true = e in cc)
 
 -- ---- it follows
 
-pub told : (c : Codecs) (cs : car.Codecs) (st : Station) (plan : CarPlan) (h : List Happening) (s new : Sides) (event : PlantEvent) (charger : Charger) → AreSound c.Reads s → PostIsQuiet s → CarIsQuiet s → over_by s ≡ false → Comes s.post.charger s.moment event charger
-    → new ≡ with_event event charger s → IsAt c cs st plan h s → HasHappened c cs st plan h new
-told c cs st plan h s new event charger sound p q goes_on comes e k =
-    let over = sym (over_same c cs st plan h s c.Reads sound k) ∙ goes_on in
-    record { happening = ChargerTells event; within = refl; at = subst (IsAt c cs st plan (ChargerTells event ∷ h)) (sym e) (told_at c cs st plan h s event charger k (rest_by c cs st plan h s k p q) over comes) }
+heard_at : (m n : ℕ) (w : What) (bytes : List ℕ) → m ≡ n → Some (hearing_at m w bytes) ≡ Some (hearing_at n w bytes)
+heard_at m n w bytes e = ap (λ (x : ℕ). Some (hearing_at x w bytes)) e
 
-pub station_heard : (c : Codecs) (cs : car.Codecs) (st : Station) (plan : CarPlan) (h : List Happening) (s new : Sides) → AreSound c.Reads s → PostIsQuiet s → CarIsQuiet s → over_by s ≡ false → NoneReached s.post.charger.moments s.moment → is_none s.to_station ≡ false
-    → new ≡ with_piece_at_station s → IsAt c cs st plan h s → HasHappened c cs st plan h new
-station_heard c cs st plan h s new sound p q goes_on none some e k =
-    let over = sym (over_same c cs st plan h s c.Reads sound k) ∙ goes_on in
-    let x = StationHears (piece_of s.number s.to_station) in
-    record { happening = x; within = refl; at = subst (IsAt c cs st plan (x ∷ h)) (sym e) (station_at c cs st plan h s k (rest_by c cs st plan h s k p q) over none (some_way s.to_station some)) }
+pub told_heard : (s new : Sides) (event : PlantEvent) (charger : Charger) (heard : Option Hearing) → new ≡ with_event event charger s → heard ≡ Some (hearing_at new.moment (what.Plant 1 event) []) → heard ≡ Some (hearing_at s.moment (what.Plant 1 event) [])
+told_heard s new event charger heard e x = x ∙ heard_at new.moment s.moment (what.Plant 1 event) [] (ap (λ (y : Sides). y.moment) e)
 
-pub car_heard : (c : Codecs) (cs : car.Codecs) (st : Station) (plan : CarPlan) (h : List Happening) (s new : Sides) → AreSound c.Reads s → PostIsQuiet s → CarIsQuiet s → over_by s ≡ false → NoneReached s.post.charger.moments s.moment → is_none s.to_station ≡ true → is_none s.to_car ≡ false
-    → new ≡ with_piece_at_car s → IsAt c cs st plan h s → HasHappened c cs st plan h new
-car_heard c cs st plan h s new sound p q goes_on none nothing some e k =
+pub told : (c : Codecs) (cs : car.Codecs) (st : Station) (plan : CarPlan) (h : List Happening) (s new : Sides) (event : PlantEvent) (charger : Charger) (heard : Option Hearing) → heard ≡ Some (hearing_at s.moment (what.Plant 1 event) []) → AreSound c.Reads s → PostIsQuiet s → CarIsQuiet s → over_by s ≡ false → Comes s.post.charger s.moment event charger
+    → new ≡ with_event event charger s → IsAt c cs st plan h s → HasHeard c cs st plan h heard new
+told c cs st plan h s new event charger heard x sound p q goes_on comes e k =
+    let over = sym (over_same c cs st plan h s c.Reads sound k) ∙ goes_on in
+    record { turn = ChargerTells event; is = refl; heard_is = x ∙ heard_at s.moment _ (what.Plant 1 event) [] k.moment_is; at = subst (IsAt c cs st plan (ChargerTells event ∷ h)) (sym e) (told_at c cs st plan h s event charger k (rest_by c cs st plan h s k p q) over comes) }
+
+pub station_heard : (c : Codecs) (cs : car.Codecs) (st : Station) (plan : CarPlan) (h : List Happening) (s new : Sides) (heard : Option Hearing)
+    → heard ≡ Some (hearing_at s.moment (what.Bytes 1 (length (piece_of s.number s.to_station))) (piece_of s.number s.to_station)) → AreSound c.Reads s → PostIsQuiet s → CarIsQuiet s → over_by s ≡ false → NoneReached s.post.charger.moments s.moment → is_none s.to_station ≡ false
+    → new ≡ with_piece_at_station s → IsAt c cs st plan h s → HasHeard c cs st plan h heard new
+station_heard c cs st plan h s new heard y sound p q goes_on none some e k =
+    let over = sym (over_same c cs st plan h s c.Reads sound k) ∙ goes_on in
+    let bytes = piece_of s.number s.to_station in
+    let x = StationHears bytes in
+    record { turn = x; is = refl; heard_is = y ∙ heard_at s.moment _ (what.Bytes 1 (length bytes)) bytes k.moment_is; at = subst (IsAt c cs st plan (x ∷ h)) (sym e) (station_at c cs st plan h s k (rest_by c cs st plan h s k p q) over none (some_way s.to_station some)) }
+
+pub car_heard : (c : Codecs) (cs : car.Codecs) (st : Station) (plan : CarPlan) (h : List Happening) (s new : Sides) (heard : Option Hearing) → heard ≡ None → AreSound c.Reads s → PostIsQuiet s → CarIsQuiet s → over_by s ≡ false → NoneReached s.post.charger.moments s.moment → is_none s.to_station ≡ true → is_none s.to_car ≡ false
+    → new ≡ with_piece_at_car s → IsAt c cs st plan h s → HasHeard c cs st plan h heard new
+car_heard c cs st plan h s new heard y sound p q goes_on none nothing some e k =
     let over = sym (over_same c cs st plan h s c.Reads sound k) ∙ goes_on in
     let x = CarHears (piece_of s.number s.to_car) in
-    record { happening = x; within = refl; at = subst (IsAt c cs st plan (x ∷ h)) (sym e) (car_at c cs st plan h s k (rest_by c cs st plan h s k p q) over none (no_way s.to_station nothing) (some_way s.to_car some)) }
+    record { turn = x; is = refl; heard_is = y; at = subst (IsAt c cs st plan (x ∷ h)) (sym e) (car_at c cs st plan h s k (rest_by c cs st plan h s k p q) over none (no_way s.to_station nothing) (some_way s.to_car some)) }
 
-pub waited : (c : Codecs) (cs : car.Codecs) (st : Station) (plan : CarPlan) (h : List Happening) (s new : Sides) → AreSound c.Reads s → PostIsQuiet s → CarIsQuiet s → over_by s ≡ false → NoneReached s.post.charger.moments s.moment → is_none s.to_station ≡ true → is_none s.to_car ≡ true
-    → new ≡ later s → IsAt c cs st plan h s → HasHappened c cs st plan h new
-waited c cs st plan h s new sound p q goes_on none nothing neither e k =
+pub waited : (c : Codecs) (cs : car.Codecs) (st : Station) (plan : CarPlan) (h : List Happening) (s new : Sides) (heard : Option Hearing) → heard ≡ Some (hearing_at new.moment what.Tick []) → AreSound c.Reads s → PostIsQuiet s → CarIsQuiet s → over_by s ≡ false → NoneReached s.post.charger.moments s.moment → is_none s.to_station ≡ true → is_none s.to_car ≡ true
+    → new ≡ later s → IsAt c cs st plan h s → HasHeard c cs st plan h heard new
+waited c cs st plan h s new heard y sound p q goes_on none nothing neither e k =
     let over = sym (over_same c cs st plan h s c.Reads sound k) ∙ goes_on in
-    record { happening = TimePasses; within = refl; at = subst (IsAt c cs st plan (TimePasses ∷ h)) (sym e) (later_at c cs st plan h s k (rest_by c cs st plan h s k p q) over none (no_way s.to_station nothing) (no_way s.to_car neither)) }
+    let m : new.moment ≡ moment h + 10 = ap (λ (x : Sides). x.moment) e ∙ ap (λ (x : ℕ). x + 10) k.moment_is in
+    record { turn = TimePasses; is = refl; heard_is = y ∙ heard_at new.moment (moment h + 10) what.Tick [] m; at = subst (IsAt c cs st plan (TimePasses ∷ h)) (sym e) (later_at c cs st plan h s k (rest_by c cs st plan h s k p q) over none (no_way s.to_station nothing) (no_way s.to_car neither)) }
 
 -- ---- it stays sound
 

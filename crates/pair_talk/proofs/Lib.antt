@@ -11,3 +11,4 @@ pub mod Goings
 pub mod Bounds
 pub mod Partings
 pub mod Generated
+pub mod Pipes

@@ -1,26 +1,41 @@
--- Own: one thing that an end does, over a history, and what a station does alone.
+-- Own: one thing that an end does, over a history, and all that both ends do before something more is heard.
 use Rattle.std.specs.Prelude.{◌≡◌, Bool, true, false, List, ◌∷◌, ◌++◌, Option}
 use Rattle.std.specs.List.{AllByRecursion}
 use Rattle.session_words.specs.declared.plan.CarPlan.{CarPlan}
 use Rattle.post_spec.specs.Codecs.{Codecs}
 use Rattle.post_spec.specs.Steps.{Act, Reading}
 use Rattle.car_spec.specs.Codecs as car
-use Rattle.pipe_spec.specs.Histories.{Happening, StationDoes}
-use Rattle.pipe_spec.specs.Runs.{IsWithin}
+use Rattle.pipe_spec.specs.Histories.{Happening, StationDoes, CarReads, CarDoes}
 use Rattle.pipe_spec.specs.Turns.{Station}
 use Rattle.pair_talk.specs.Keeping.{IsAt}
 use Rattle.pair_talk.specs.Sides.{Sides}
 
--- one happening more of the session
-pub record HasHappened (c : Codecs) (cc : car.Codecs) (st : Station) (plan : CarPlan) (h : List Happening) (s : Sides) : Type 0 where
-  pub happening : Happening
-  pub within : IsWithin happening
-  pub at : IsAt c cc st plan (happening ∷ h) s
+-- what an end does, or a car reads
+abbrev pub is_deed : Happening → Bool
+is_deed (StationDoes reading act) = true
+is_deed (CarReads judged) = true
+is_deed (CarDoes act) = true
+is_deed other = false
+
+abbrev pub IsDeed : Happening → Type 0
+IsDeed e = is_deed e ≡ true
+
+-- one deed more
+pub record HasDone (c : Codecs) (cc : car.Codecs) (st : Station) (plan : CarPlan) (h : List Happening) (s : Sides) : Type 0 where
+  pub deed : Happening
+  pub is : IsDeed deed
+  pub at : IsAt c cc st plan (deed ∷ h) s
 
 -- whether an end did something
-abbrev pub MayHaveHappened : Codecs → car.Codecs → Station → CarPlan → List Happening → Bool → Sides → Type 0
-MayHaveHappened c cc st plan h true s = HasHappened c cc st plan h s
-MayHaveHappened c cc st plan h false s = IsAt c cc st plan h s
+abbrev pub MayHaveDone : Codecs → car.Codecs → Station → CarPlan → List Happening → Bool → Sides → Type 0
+MayHaveDone c cc st plan h true s = HasDone c cc st plan h s
+MayHaveDone c cc st plan h false s = IsAt c cc st plan h s
+
+-- both ends have done so much from this history
+pub record HaveDone (c : Codecs) (cc : car.Codecs) (st : Station) (plan : CarPlan) (h : List Happening) (s : Sides) : Type 0 where
+  pub deeds : List Happening
+  pub are : AllByRecursion IsDeed deeds
+  pub at : IsAt c cc st plan (deeds ++ h) s
 
 -- one act more of the station
 pub record HasActed (c : Codecs) (cc : car.Codecs) (st : Station) (plan : CarPlan) (h : List Happening) (s : Sides) : Type 0 where

@@ -2,11 +2,13 @@ pub mod Reports
 pub mod Sides
 pub mod Keeping
 pub mod Acting
+pub mod Turning
 pub mod Lessening
 pub mod Beginning
 pub mod Ending
 pub mod Making
 pub mod Parting
 pub mod Generating
+pub mod Pipes
 pub use Rattle.pipe_spec.specs.Counts
 pub use Rattle.pipe_spec.specs.Runs

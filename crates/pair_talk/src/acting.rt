@@ -8,8 +8,8 @@ ghost use Rattle.site_posts.specs.Work.{work};
 ghost use Rattle.evcc_machine.specs.Work.{work as car_work};
 ghost use Rattle.pipe_spec.specs.Histories.{Happening};
 ghost use Rattle.pipe_spec.specs.Turns.{Station};
-ghost use Rattle.pair_talk.specs.Acting.{MayHaveActed, MayHaveHappened, HasAnswered};
-ghost use Rattle.pair_talk.specs.Keeping.{AreSound, PostIsQuiet, CarIsQuiet, IsAt, GoesOn};
+ghost use Rattle.pair_talk.specs.Acting.{MayHaveActed, MayHaveDone, HaveDone, HasAnswered};
+ghost use Rattle.pair_talk.specs.Keeping.{AreSound, PostIsQuiet, CarIsQuiet, IsAt};
 ghost use Rattle.pair_talk.specs.Lessening.{Keeps};
 ghost use Rattle.pair_talk.specs.Sides.{sides};
 
@@ -50,7 +50,7 @@ fn step_once<C: Codec, D: CarCodec>(codec: &mut D, pair: &mut Pair) -> bool
     requires sound { AreSound C.reads (sides pair.old) }
     requires quiet { PostIsQuiet (sides pair.old) }
     ensures steps { (st : Station) (plan : CarPlan) (h : List Happening) → IsAt (codecs C.negotiates C.reads C.encodes) (car_codecs.codecs D.offers D.responds D.reads D.encodes) st plan h (sides pair.old)
-        → MayHaveHappened (codecs C.negotiates C.reads C.encodes) (car_codecs.codecs D.offers D.responds D.reads D.encodes) st plan h result (sides pair.new) }
+        → MayHaveDone (codecs C.negotiates C.reads C.encodes) (car_codecs.codecs D.offers D.responds D.reads D.encodes) st plan h result (sides pair.new) }
     ensures sound { AreSound C.reads (sides pair.new) }
     ensures post { PostIsQuiet (sides pair.new) }
     ensures quiet { result ≡ false → CarIsQuiet (sides pair.new) }
@@ -66,7 +66,7 @@ fn answer_car<C: Codec, D: CarCodec>(codec: &mut D, pair: &mut Pair)
     requires sound { AreSound C.reads (sides pair.old) }
     requires quiet { PostIsQuiet (sides pair.old) }
     ensures steps { (st : Station) (plan : CarPlan) (h : List Happening) → IsAt (codecs C.negotiates C.reads C.encodes) (car_codecs.codecs D.offers D.responds D.reads D.encodes) st plan h (sides pair.old)
-        → GoesOn (codecs C.negotiates C.reads C.encodes) (car_codecs.codecs D.offers D.responds D.reads D.encodes) st plan h (sides pair.new) }
+        → HaveDone (codecs C.negotiates C.reads C.encodes) (car_codecs.codecs D.offers D.responds D.reads D.encodes) st plan h (sides pair.new) }
     ensures sound { AreSound C.reads (sides pair.new) }
     ensures post { PostIsQuiet (sides pair.new) }
     ensures quiet { CarIsQuiet (sides pair.new) }
@@ -80,7 +80,7 @@ fn answer_car<C: Codec, D: CarCodec>(codec: &mut D, pair: &mut Pair)
 pub(crate) fn answer<C: Codec, D: CarCodec>(codec: &mut C, car_codec: &mut D, pair: &mut Pair)
     requires { AreSound C.reads (sides pair.old) }
     ensures acts { (st : Station) (plan : CarPlan) (h : List Happening) → IsAt (codecs C.negotiates C.reads C.encodes) (car_codecs.codecs D.offers D.responds D.reads D.encodes) st plan h (sides pair.old)
-        → GoesOn (codecs C.negotiates C.reads C.encodes) (car_codecs.codecs D.offers D.responds D.reads D.encodes) st plan h (sides pair.new) }
+        → HaveDone (codecs C.negotiates C.reads C.encodes) (car_codecs.codecs D.offers D.responds D.reads D.encodes) st plan h (sides pair.new) }
     ensures sound { AreSound C.reads (sides pair.new) }
     ensures post { PostIsQuiet (sides pair.new) }
     ensures quiet { CarIsQuiet (sides pair.new) }

@@ -18,7 +18,7 @@ use site_plan::{fixed, fixed_car};
 use std::alloc::Global;
 
 /// What was counted of the pair's sessions.
-fn counts_of(pair: &Pair) -> PipeCounts
+pub(crate) fn counts_of(pair: &Pair) -> PipeCounts
     ensures replies { result.replies ≡ (sides pair.now).post.tally.replies }
     ensures bytes { result.bytes ≡ (sides pair.now).post.tally.bytes }
     ensures closed { result.closed ≡ (sides pair.now).post.tally.closed }

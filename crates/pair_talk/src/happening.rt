@@ -1,16 +1,20 @@
 //! What happens to a pair.
 
-ghost use Rattle.std.specs.Prelude.{◌≡◌, ◌<◌, ◌^◌, ◌≤◌, ◌+◌, length, take};
+ghost use Rattle.std.specs.Prelude.{◌≡◌, ◌<◌, ◌^◌, ◌≤◌, ◌+◌, Some, length, take};
+ghost use Rattle.charge_world.specs.declared.heard.What.TheVariants as what;
 ghost use Rattle.car_spec.specs.Next.{IsQuiet};
 ghost use Rattle.session_words.specs.Plans.{IsCarPlan};
 ghost use Rattle.car_codec.specs.Requests.{IsPlan};
 ghost use Rattle.pipe_spec.specs.Histories.{joined, ported};
+ghost use Rattle.pipe_spec.specs.Pasts.{hearing_at};
 ghost use Rattle.pair_talk.specs.Keeping.{PostIsQuiet, CarIsQuiet};
 ghost use Rattle.pair_talk.specs.Sides.{sides, with_car, with_event, with_piece_at_station, with_piece_at_car, later, gone, with_plan, heard_by, piece_of};
+ghost use Rattle.pair_talk.specs.Turning.{last_hearing};
 ghost use Rattle.pair_ends.specs.Ends.{car_side};
 ghost use Rattle.evcc_machine.specs.Views.{event_of};
 ghost use Rattle.pipe_spec.specs.Numbers.{next};
 
+use crate::heard::LastHeard;
 use crate::making::{bound_car, plan_joined};
 use crate::pair::Pair;
 use charge_world::{PlantEvent, What};
@@ -64,18 +68,22 @@ impl Pair {
     }
 
     /// The station hears the next piece of what is under way to it.
-    pub(crate) fn station_hears(&mut self)
+    pub(crate) fn station_hears(&mut self) -> LastHeard
         requires { PostIsQuiet (sides self.old) }
-        ensures { sides self.new ≡ with_piece_at_station (sides self.old) }
+        ensures sides { sides self.new ≡ with_piece_at_station (sides self.old) }
+        ensures heard { let bytes = piece_of (sides self.old).number (sides self.old).to_station in
+            last_hearing result ≡ Some (hearing_at (sides self.old).moment (what.Bytes 1 (length bytes)) bytes) }
     {
         let n = piece_length(&mut self.numbers, &self.to_station);
+        let piece = &self.to_station.bytes()[..n];
+        let last = LastHeard::of_bytes(self.moment, piece);
         let what = What::Bytes {
             post: 1,
             n: n as u32,
         };
-        self.post
-            .hear(self.moment, what, &self.to_station.bytes()[..n]);
+        self.post.hear(self.moment, what, piece);
         self.to_station.pass(n);
+        last
     }
 
     /// The car hears the next piece of what is under way to it.

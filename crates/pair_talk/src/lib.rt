@@ -9,14 +9,19 @@
 mod acting;
 mod generating;
 mod happening;
+mod heard;
+mod hearing;
 mod making;
 mod pair;
 mod parting;
+mod pipe;
+mod piping;
 mod session;
 mod talking;
 mod turning;
 
 pub use generating::generate;
 pub use pair_plans::PipeCounts;
+pub use pipe::Pipe;
 pub use std::alloc::AllocError as NoMemory;
 pub use talking::{TalkReport, talk};

@@ -3,7 +3,7 @@ use Rattle.post_spec.specs.Codecs.{codecs}
 use Rattle.car_spec.specs.Codecs as car_codecs
 use Rattle.pair_talk.specs.Sides.{sides}
 use Rattle.pair_talk.proofs.Happened.{left_by}
-use Rattle.pair_talk.proofs.Steps.{nothing_more, then}
+use Rattle.pair_talk.proofs.Steps.{nothing_more, then, turn_goes_on}
 use Rattle.pair_talk.proofs.session.go_on.Goals as goal
 
 pub loop-codec-init : goal.loop-codec-init
@@ -31,7 +31,7 @@ loop-codec-preserved g c =
     let cs = codecs g.C.Coded.negotiates g.C.Coded.reads g.C.Coded.encodes in
     let ccs = car_codecs.codecs g.D.CarCoded.offers g.D.CarCoded.responds g.D.CarCoded.reads g.D.CarCoded.encodes in
     record {
-      goes = λ st plan h k. then cs ccs st plan h (sides c.loop-codec.pair) (sides c.turn.new.pair) (c.loop-codec.invariant.goes st plan h k) (c.turn.ensures.goes st plan _ (c.loop-codec.invariant.goes st plan h k).at);
+      goes = λ st plan h k. then cs ccs st plan h (sides c.loop-codec.pair) (sides c.turn.new.pair) (c.loop-codec.invariant.goes st plan h k) (turn_goes_on cs ccs st plan _ _ (sides c.turn.new.pair) (c.turn.ensures.goes st plan _ (c.loop-codec.invariant.goes st plan h k).at));
       sound = c.turn.ensures.sound;
       post = c.turn.ensures.post;
       car = c.turn.ensures.car;

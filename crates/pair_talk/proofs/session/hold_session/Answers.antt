@@ -4,7 +4,7 @@ use Rattle.car_spec.specs.Codecs as car_codecs
 use Rattle.pair_talk.specs.Sides.{Sides, sides}
 use Rattle.pipe_spec.specs.Histories.{CarComes}
 use Rattle.pair_talk.proofs.Sessions.{came_at, came_sound, ends_by}
-use Rattle.pair_talk.proofs.Steps.{at_same, then}
+use Rattle.pair_talk.proofs.Steps.{at_same, goes_on, then}
 use Rattle.pair_talk.proofs.session.hold_session.Goals as goal
 
 pub answer-requires : goal.answer-requires
@@ -22,6 +22,6 @@ returns-clause-ends g c st plan before k =
     let ccs = car_codecs.codecs g.D.CarCoded.offers g.D.CarCoded.responds g.D.CarCoded.reads g.D.CarCoded.encodes in
     let h = CarComes plan ∷ before in
     let came = at_same cs ccs st plan h _ (sides c.come.new.self) c.come.ensures (came_at cs ccs st plan before (sides c.args.pair.now) k) in
-    let a = c.answer.ensures.acts st plan h came in
+    let a = goes_on cs ccs st plan h (sides c.answer.new.pair) (c.answer.ensures.acts st plan h came) in
     let b = then cs ccs st plan h (sides c.answer.new.pair) (sides c.go_on.new.pair) a (c.go_on.ensures.goes st plan _ a.at) in
     ends_by cs ccs st plan before (sides c.go_on.new.pair) c.go_on.ensures.sound c.go_on.ensures.post c.go_on.ensures.car c.go_on.ensures.over b

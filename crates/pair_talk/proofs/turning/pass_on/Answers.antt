@@ -10,17 +10,17 @@ returns-then-not-is_empty-clause-goes g c st plan h k none =
     let cs = codecs g.C.Coded.negotiates g.C.Coded.reads g.C.Coded.encodes in
     let ccs = car_codecs.codecs g.D.CarCoded.offers g.D.CarCoded.responds g.D.CarCoded.reads g.D.CarCoded.encodes in
     let s = sides c.args.pair.now in
-    station_heard cs ccs st plan h s (sides c.station_hears.new.self) c.requires.sound c.requires.post c.requires.car c.requires.goes_on none (sym c.is_empty.ensures ∙ c.if-not-is_empty.true) c.station_hears.ensures k
+    station_heard cs ccs st plan h s (sides c.station_hears.new.self) _ c.station_hears.ensures.heard c.requires.sound c.requires.post c.requires.car c.requires.goes_on none (sym c.is_empty.ensures ∙ c.if-not-is_empty.true) c.station_hears.ensures.sides k
 
 pub returns-then-not-is_empty-clause-sound : goal.returns-then-not-is_empty-clause-sound
-returns-then-not-is_empty-clause-sound g c = station_sound g.C.Coded.reads (sides c.args.pair.now) (sides c.station_hears.new.self) c.requires.post c.station_hears.ensures c.requires.sound
+returns-then-not-is_empty-clause-sound g c = station_sound g.C.Coded.reads (sides c.args.pair.now) (sides c.station_hears.new.self) c.requires.post c.station_hears.ensures.sides c.requires.sound
 
 pub returns-then-not-is_empty-2-clause-goes : goal.returns-then-not-is_empty-2-clause-goes
 returns-then-not-is_empty-2-clause-goes g c st plan h k none =
     let cs = codecs g.C.Coded.negotiates g.C.Coded.reads g.C.Coded.encodes in
     let ccs = car_codecs.codecs g.D.CarCoded.offers g.D.CarCoded.responds g.D.CarCoded.reads g.D.CarCoded.encodes in
     let s = sides c.args.pair.now in
-    car_heard cs ccs st plan h s (sides c.car_hears.new.self) c.requires.sound c.requires.post c.requires.car c.requires.goes_on none (sym c.is_empty.ensures ∙ c.if-not-is_empty.false)
+    car_heard cs ccs st plan h s (sides c.car_hears.new.self) _ c.nothing.ensures c.requires.sound c.requires.post c.requires.car c.requires.goes_on none (sym c.is_empty.ensures ∙ c.if-not-is_empty.false)
     (sym c.is_empty-else-not-is_empty.ensures ∙ c.if-not-is_empty-2.true) c.car_hears.ensures k
 
 pub returns-then-not-is_empty-2-clause-sound : goal.returns-then-not-is_empty-2-clause-sound
@@ -35,7 +35,7 @@ returns-else-not-is_empty-2-clause-goes g c st plan h k none =
     let cs = codecs g.C.Coded.negotiates g.C.Coded.reads g.C.Coded.encodes in
     let ccs = car_codecs.codecs g.D.CarCoded.offers g.D.CarCoded.responds g.D.CarCoded.reads g.D.CarCoded.encodes in
     let s = sides c.args.pair.now in
-    waited cs ccs st plan h s (sides c.wait.new.self) c.requires.sound c.requires.post c.requires.car c.requires.goes_on none (sym c.is_empty.ensures ∙ c.if-not-is_empty.false)
+    waited cs ccs st plan h s (sides c.wait.new.self) _ c.of.ensures c.requires.sound c.requires.post c.requires.car c.requires.goes_on none (sym c.is_empty.ensures ∙ c.if-not-is_empty.false)
     (sym c.is_empty-else-not-is_empty.ensures ∙ c.if-not-is_empty-2.false) c.wait.ensures k
 
 pub returns-else-not-is_empty-2-clause-sound : goal.returns-else-not-is_empty-2-clause-sound
