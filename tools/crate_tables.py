@@ -15,8 +15,8 @@ from reached_paths import listed
 
 TOP = os.path.join(os.path.dirname(os.path.abspath(__file__)), "..")
 PROGRAM = "v2g_charge"
-# layers of which the program stands on nothing, or not yet
-BESIDE = ("tests and benches", "the pair")
+# a layer of which the program stands on nothing
+BESIDE = ("tests and benches",)
 
 
 def read(path):
