@@ -5,6 +5,7 @@ use Rattle.charge_world.specs.declared.offer.Dialect.{Dialect}
 use Rattle.session_words.specs.declared.plan.CarPlan.{CarPlan}
 use Rattle.session_words.specs.declared.plan.SitePlan.{SitePlan}
 use Rattle.session_words.specs.declared.word.Word.{Word}
+use Rattle.session_words.specs.Plans.{IsCarPlan, IsSitePlan}
 use Rattle.plant_sim.specs.Charger.{came}
 use Rattle.post_spec.specs.Codecs.{Codecs}
 use Rattle.post_spec.specs.Steps.{Came}
@@ -20,6 +21,7 @@ use Rattle.car_codec.specs.Requests.{IsPlan}
 use Rattle.car_acts.proofs.Sound as car_sound
 use Rattle.pipe_spec.specs.Counts.{exchanges}
 use Rattle.pipe_spec.specs.Histories.{Happening, CarComes, joined, moment}
+use Rattle.pipe_spec.specs.Runs.{IsPipeRun}
 use Rattle.pipe_spec.specs.Turns.{Station}
 use Rattle.pipe_laws.proofs.Words.{exchanges_are_within_turns}
 use Rattle.matched_pairs.proofs.PipeRuns.{pipe_runs_are_well}
