@@ -70,7 +70,7 @@ fn printed_over<W: Wire + Drop>(
 }
 
 /// Whether a trace replays to itself by this plan. It leaves the wire alone.
-pub(crate) fn replayed<W: Wire>(
+fn replayed<W: Wire>(
     alloc: Global,
     plan: (&str, &[u8]),
     trace: &[u8],

@@ -93,7 +93,7 @@ fn cars_of<R: Processes + Env + AllocGlobal>(
 }
 
 /// Adds lines to a line.
-pub(crate) fn add(text: &mut String, lines: &str) -> Result<()> {
+fn add(text: &mut String, lines: &str) -> Result<()> {
     for line in lines.lines() {
         if !text.is_empty() {
             text.push_str(", ")?;

@@ -2,7 +2,7 @@
 //!
 //! The words are a task, a number of posts and a number of requests:
 //! - `read` reads the trace of the session: that of `opening.trace`, whose last request comes so many times more;
-//! - `serve` serves it at the first post too, and says whether the site takes less than 2 MB;
+//! - `serve` serves it at the first post too, and says whether the site takes less than 1 MB;
 //! - `write` serves it, and prints the trace that is written.
 //!
 //! Or they are `replay` and a file: the trace in it is replayed at one post, and it is said whether the same is written.
@@ -19,7 +19,7 @@ use std::process::ExitCode;
 use std::{env, fs};
 
 /// A site takes fewer bytes.
-const MOST: u64 = 2_000_000;
+const MOST: u64 = 1_000_000;
 
 fn main(rt: HostRuntime) -> Result<ExitCode> {
     let mut words = env::args(&rt)?.skip(1);
